@@ -1,0 +1,10 @@
+use borrow.Author.Needs.{needs}
+use mathlib.Core.Path.{_≡_}
+use Rattle.entries.specs.Legality.{legal}
+use Rattle.entries.proofs.Judged.{legal-told}
+use Rattle.entries.proofs.shapes.Entry.is_legal.Needs as need
+
+pub returns-then-self-le-LAST-TAG : need.returns-then-self-le-LAST-TAG
+returns-then-self-le-LAST-TAG c =
+    let e : c .has-legal-chain .result ≡ legal (c .args .self .now) = search needs in
+    record { by-the-rule = e; exactly-when-legal = legal-told (c .args .self .now) (c .has-legal-chain .result) e }
