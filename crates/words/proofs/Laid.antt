@@ -9,7 +9,7 @@ use borrow.Author.Needs.{needs}
 use borrow.Rule.Slice.PartMut.{putMid}
 use lib.Dec.{leb}
 use lib.ListN.{length, take, drop, getD}
-use Rattle.std.proofs.shelf.Lists.{places, same-lists, length-take, length-drop, length-append, take-at, drop-at, getD-take, getD-drop, drop-drop}
+use Rattle.std.proofs.shelf.Lists.{places, same-lists, length-take, length-drop, length-append, take-at, drop-at, getD-take, getD-drop, drop-drop, getD-at}
 use Rattle.std.proofs.shelf.Ways.{leb-tells, tells}
 use Rattle.words.specs.Bytes.{part, overwrite}
 use Rattle.words.specs.Numbers.{le, value, get, put}
@@ -82,6 +82,14 @@ overwrite-none at xs = same-lists _ _ (length-overwrite at [] xs) (λ i d h. byt
   where
     away : (i : ℕ) → (i < at) ⊎ (at + length {A = ℕ} [] ≤ i)
     away i = elim (leb-tells at i) [ inl t ↦ inr (omega arith) | inr t ↦ inl (t .1) ]
+
+pub part-none : (at : ℕ) (xs : List ℕ) → part at 0 xs ≡ []
+part-none at xs = elim (leb-tells (at + 0) (length xs)) [ inl t ↦ part-within at 0 xs (t .1) | inr t ↦ part-outside at 0 xs (t .1) ]
+
+pub byte-same : (at b : ℕ) (xs : List ℕ) (d : ℕ) → at < length xs → getD (overwrite at (b ∷ []) xs) at d ≡ b
+byte-same at b xs d h =
+    let a : length (take at xs) ≡ at = simp length-take (omega arith) in
+    ap (λ (ys : List ℕ). getD ys at d) (overwrite-within at (b ∷ []) xs (omega arith)) ∙ getD-at (take at xs) b (drop (at + 1) xs) d at a
 
 -- the code's part and write, where the test said that the part lies within
 pub part-read : (at k : ℕ) (xs : List ℕ) → true ≡ leb (at + k) (length xs) → take (at + k - at) (drop at xs) ≡ part at k xs

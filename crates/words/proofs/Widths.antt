@@ -13,7 +13,7 @@ use Rattle.std.proofs.shelf.Lists.{drop-more}
 use Rattle.std.proofs.shelf.Ways.{tells}
 use Rattle.words.specs.Bytes.{part, overwrite}
 use Rattle.words.specs.Numbers.{le, value, get, put}
-use Rattle.words.proofs.Laid.{part-within, part-outside, part-of-same, part-apart, length-overwrite}
+use Rattle.words.proofs.Laid.{part-within, part-outside, part-of-same, part-apart, byte-apart, length-overwrite}
 
 pub length-le : (k n : ℕ) → length (le k n) ≡ k
 unfolding le
@@ -66,9 +66,24 @@ pub reads-back : (k : ℕ) (xs : List ℕ) (at n : ℕ) → at + k ≤ length xs
 unfolding get put
 reads-back k xs at n h = ap value (part-of-same at k (le k n) xs h (length-le k n)) ∙ value-le k n
 
+pub get-over : (j : ℕ) (xs : List ℕ) (at p : ℕ) (new : List ℕ) → (p + j ≤ at) ⊎ (at + length new ≤ p) → get j (overwrite at new xs) p ≡ get j xs p
+unfolding get
+get-over j xs at p new q = ap value (part-apart p j at new xs q)
+
 pub get-apart : (k j : ℕ) (xs : List ℕ) (at p n : ℕ) → (p + j ≤ at) ⊎ (at + k ≤ p) → get j (put k xs at n) p ≡ get j xs p
-unfolding get put
+unfolding put
 get-apart k j xs at p n q =
     let l = length-le k n in
-    let away : (p + j ≤ at) ⊎ (at + length (le k n) ≤ p) = elim q [ inl x ↦ inl x | inr x ↦ inr (omega arith) ] in
-    ap value (part-apart p j at (le k n) xs away)
+    get-over j xs at p (le k n) (elim q [ inl x ↦ inl x | inr x ↦ inr (omega arith) ])
+
+pub part-put : (k p n at : ℕ) (xs : List ℕ) (m : ℕ) → (p + n ≤ at) ⊎ (at + k ≤ p) → part p n (put k xs at m) ≡ part p n xs
+unfolding put
+part-put k p n at xs m q =
+    let l = length-le k m in
+    part-apart p n at (le k m) xs (elim q [ inl x ↦ inl x | inr x ↦ inr (omega arith) ])
+
+pub byte-put : (k : ℕ) (xs : List ℕ) (at n i d : ℕ) → (i < at) ⊎ (at + k ≤ i) → getD (put k xs at n) i d ≡ getD xs i d
+unfolding put
+byte-put k xs at n i d q =
+    let l = length-le k n in
+    byte-apart at (le k n) xs i d (elim q [ inl x ↦ inl x | inr x ↦ inr (omega arith) ])

@@ -1,0 +1,4 @@
+pub mod Shapes
+pub mod Header
+pub mod Shown
+pub mod Touched

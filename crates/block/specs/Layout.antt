@@ -1,0 +1,53 @@
+-- How a block request lies in a cell and in an entry, and how it is read from there. Assumes nothing.
+use mathlib.Core.Bool.{Bool, true, false, cond, _||_}
+use mathlib.Core.List.{List, [], _∷_}
+use Prim.Native.Nat.{ℕ, _+_}
+use lib.ListN.{replicate}
+use Rattle.std.specs.declared.option.Option.{Option}
+use Rattle.std.specs.declared.option.Option.the-variants.{Some, None}
+use Rattle.words.specs.Bytes.{part, overwrite}
+use Rattle.words.specs.Numbers.{get, put}
+use Rattle.entries.specs.declared.shapes.Segment.{Segment}
+use Rattle.entries.specs.declared.shapes.Entry.{Entry}
+use Rattle.entries.specs.Legality.{blank}
+use Rattle.entries.specs.Sameness.{same}
+use Rattle.class.specs.Cells.{address}
+use Rattle.class.specs.Kinds.{Asked}
+use Rattle.block.specs.Requests.{is-read, is-write}
+
+-- a segment of tag t's cell
+abbrev pub segment : ℕ → ℕ → ℕ → Bool → Segment
+segment t at n w = record { start = address t + at; length = n; writable = w }
+
+-- a read or a write has header, data and status; the device may write the status, and the data of a read
+abbrev pub with-data : ℕ → Bool → Entry
+with-data t reading = record { tag = t; count = 3; segments = segment t 0 16 false ∷ (segment t 16 512 reading ∷ (segment t 528 1 true ∷ [])) }
+
+-- any other type has header and status
+abbrev pub without-data : ℕ → Entry
+without-data t = record { tag = t; count = 2; segments = segment t 0 16 false ∷ (segment t 528 1 true ∷ (blank ∷ [])) }
+
+abbrev pub entry-for : ℕ → ℕ → Entry
+entry-for t code = cond (is-read code || is-write code) (with-data t (is-read code)) (without-data t)
+
+-- le32 type, le32 zero, le64 sector
+abbrev pub lay-header : Asked → List ℕ → List ℕ
+lay-header r cell = put 8 (put 4 (put 4 cell 0 (r .code)) 4 0) 8 (r .place)
+
+-- what is laid as data: zeroes for a read, the payload for a write, nothing for any other type
+abbrev pub filling : Asked → List ℕ
+filling r = cond (is-read (r .code)) (replicate 512 0) (cond (is-write (r .code)) (r .payload) [])
+
+-- header, data, and status 255
+abbrev pub lays : Asked → List ℕ → List ℕ
+lays r cell = overwrite 528 (255 ∷ []) (overwrite 16 (filling r) (lay-header r cell))
+
+abbrev pub type-in : List ℕ → ℕ
+type-in cell = get 4 cell 0
+
+abbrev pub asked-in : List ℕ → Asked
+asked-in cell = record { code = type-in cell; place = get 8 cell 8; payload = cond (is-write (type-in cell)) (part 16 512 cell) [] }
+
+-- an entry states a request where its segments are those of its cell's type
+abbrev pub reads : Entry → List ℕ → Option Asked
+reads e cell = cond (same e (entry-for (e .tag) (type-in cell))) (Some (asked-in cell)) None

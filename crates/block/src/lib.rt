@@ -1,0 +1,15 @@
+// The block class: reads, writes and flushes of 512-byte sectors.
+mod codes;
+mod interface;
+mod laying;
+mod serving;
+
+pub use codes::FLUSH;
+pub use codes::IO_ERROR;
+pub use codes::OK;
+pub use codes::READ;
+pub use codes::SECTOR_SIZE;
+pub use codes::UNSUPPORTED;
+pub use codes::WRITE;
+pub use interface::Block;
+pub use interface::BlockClass;
