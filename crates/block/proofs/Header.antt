@@ -18,11 +18,12 @@ use Rattle.words.proofs.Laid.{length-overwrite, part-of-same, part-apart}
 use Rattle.words.proofs.Widths.{length-put, reads-back, get-apart, get-over}
 use Rattle.entries.specs.declared.shapes.Entry.{Entry}
 use Rattle.entries.specs.Sameness.{same}
+use Rattle.entries.proofs.Judged.{same-self}
 use Rattle.class.specs.Kinds.{Asked, Sized}
 use Rattle.class.proofs.Values.{same-asked}
 use Rattle.block.specs.Requests.{is-read, is-write, is-flush, refused}
 use Rattle.block.specs.Layout.{entry-for, lay-header, filling, lays, type-in, asked-in, reads}
-use Rattle.block.proofs.Shapes.{own-tag, same-self}
+use Rattle.block.proofs.Shapes.{own-tag}
 
 pub header-length : (r : Asked) (cell : List ℕ) → length (lay-header r cell) ≡ length cell
 header-length r cell = length-put 8 _ 8 (r .place) ∙ length-put 4 _ 4 0 ∙ length-put 4 cell 0 (r .code)

@@ -10,10 +10,9 @@ use Rattle.std.proofs.shelf.Tests.{both-ways, or-left, cond-both}
 use Rattle.std.proofs.shelf.Ways.{tells}
 use Rattle.entries.specs.declared.shapes.Entry.{Entry}
 use Rattle.entries.specs.Legality.{place, legal}
-use Rattle.entries.specs.Sameness.{same}
 use Rattle.class.specs.Laws.{Named, Writable}
 use Rattle.block.specs.Requests.{is-read, is-write}
-use Rattle.block.specs.Layout.{segment, with-data, without-data, entry-for}
+use Rattle.block.specs.Layout.{with-data, without-data, entry-for}
 
 -- what holds of both shapes holds of every type's entry
 by-shape : (P : Entry → Type 0) (t code : ℕ) → ((is-read code || is-write code) ≡ true → P (with-data t (is-read code))) → ((is-read code || is-write code) ≡ false → P (without-data t)) → P (entry-for t code)
@@ -27,9 +26,6 @@ own-tag t code = by-shape (λ e. e .tag ≡ t) t code (λ _. refl) (λ _. refl)
 
 pub within-longest : (t code : ℕ) → entry-for t code .count ≤ 3
 within-longest t code = by-shape (λ e. e .count ≤ 3) t code (λ _. omega arith) (λ _. omega arith)
-
-pub same-self : (e : Entry) → same e e ≡ true
-same-self e = grind (arith, tells)
 
 -- which bytes of the cell an entry names
 pub header-named : (t code i : ℕ) → i < 16 → Named (entry-for t code) i

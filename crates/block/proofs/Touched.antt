@@ -47,6 +47,7 @@ lays-only-named t r cell i kept h =
   where
     past-header : 16 ≤ i
     past-header = elim (cases-lt i 16) [ inl l ↦ absurd (h (header-named t (r .code) i l)) | inr l ↦ l ]
+
     past-data : (i < 528) ⊎ (528 ≤ i) → 16 + length (filling r) ≤ i
     past-data (inr l) = let f = filling-fits r kept in omega arith
     past-data (inl l) = no-data (cases-bool (is-read (r .code) || is-write (r .code)))
@@ -76,7 +77,7 @@ answers-only-writable t code a cell i n none h = beside i (a .status) (a .bytes)
 pub serves-only-writable : (e : Entry) (cell store : List ℕ) (i : ℕ) → (Writable e i → ⊥) → getD (effect block e cell store .cell) i 0 ≡ getD cell i 0
 serves-only-writable e cell store i h = by-stated (λ x. getD (x .cell) i 0 ≡ getD cell i 0) block (same e (entry-for (e .tag) (type-in cell))) (asked-in cell) cell store refl
     (λ q. answers-only-writable (e .tag) (type-in cell) (plain store (asked-in cell) .answer) cell i (bytes-fit store (asked-in cell)) (other-bytes store (asked-in cell))
-      (λ w. h (same-writable e (entry-for (e .tag) (type-in cell)) i (same-decides e (entry-for (e .tag) (type-in cell)) .0 q) (within-longest (e .tag) (type-in cell)) w)))
+    (λ w. h (same-writable e (entry-for (e .tag) (type-in cell)) i (same-decides e (entry-for (e .tag) (type-in cell)) .0 q) (within-longest (e .tag) (type-in cell)) w)))
 
 pub serves-length : (e : Entry) (cell store : List ℕ) → length (effect block e cell store .cell) ≡ length cell
 serves-length e cell store = by-stated (λ x. length (x .cell) ≡ length cell) block (same e (entry-for (e .tag) (type-in cell))) (asked-in cell) cell store refl

@@ -6,14 +6,14 @@ use Rattle.block.specs.Service.{plain, answers, status, shows}
 
 abbrev pub block : Kind
 block = record {
-    longest = 3;
-    least = 512;
-    refuses = refused;
-    entry = λ t r. entry-for t (r .code);
-    lays = lays;
-    reads = reads;
-    plain = plain;
-    answers = answers;
-    status = status;
-    shows = shows
-    }
+  longest = 3;
+  least = 512;
+  refuses = refused;
+  entry = λ t r. entry-for t (r .code);
+  lays = lays;
+  reads = reads;
+  plain = plain;
+  answers = answers;
+  status = status;
+  shows = shows;
+}

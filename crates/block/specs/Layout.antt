@@ -1,23 +1,18 @@
 -- How a block request lies in a cell and in an entry, and how it is read from there. Assumes nothing.
 use mathlib.Core.Bool.{Bool, true, false, cond, _||_}
 use mathlib.Core.List.{List, [], _∷_}
-use Prim.Native.Nat.{ℕ, _+_}
+use Prim.Native.Nat.{ℕ}
 use lib.ListN.{replicate}
 use Rattle.std.specs.declared.option.Option.{Option}
 use Rattle.std.specs.declared.option.Option.the-variants.{Some, None}
 use Rattle.words.specs.Bytes.{part, overwrite}
 use Rattle.words.specs.Numbers.{get, put}
-use Rattle.entries.specs.declared.shapes.Segment.{Segment}
 use Rattle.entries.specs.declared.shapes.Entry.{Entry}
 use Rattle.entries.specs.Legality.{blank}
 use Rattle.entries.specs.Sameness.{same}
-use Rattle.class.specs.Cells.{address}
+use Rattle.class.specs.Cells.{segment}
 use Rattle.class.specs.Kinds.{Asked}
 use Rattle.block.specs.Requests.{is-read, is-write}
-
--- a segment of tag t's cell
-abbrev pub segment : ℕ → ℕ → ℕ → Bool → Segment
-segment t at n w = record { start = address t + at; length = n; writable = w }
 
 -- a read or a write has header, data and status; the device may write the status, and the data of a read
 abbrev pub with-data : ℕ → Bool → Entry

@@ -8,12 +8,16 @@ pub const SECTOR_SIZE: usize = 512;
 
 // What a request asks for. Any other code is carried too, and answered as unsupported.
 pub const READ: u32 = 0;
+
 pub const WRITE: u32 = 1;
+
 pub const FLUSH: u32 = 4;
 
 // How a request ended.
 pub const OK: u8 = 0;
+
 pub const IO_ERROR: u8 = 1;
+
 pub const UNSUPPORTED: u8 = 2;
 
 // What the status byte holds until the device writes it.

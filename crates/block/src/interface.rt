@@ -25,6 +25,7 @@ pub struct Block;
 
 pub impl Class for Block as BlockClass {
     const LONGEST_CHAIN: usize = 3;
+
     const LEAST_STORE: usize = SECTOR_SIZE;
 
     ghost kind = { block };
@@ -59,7 +60,11 @@ pub impl Class for Block as BlockClass {
 
     fn data<'c>(cell: &'c [u8]) -> Result<&'c [u8], Refusal> {
         check_read(cell)?;
-        let length = if get32(cell, TYPE_AT) == READ { DATA_SIZE } else { 0 };
+        let length = if get32(cell, TYPE_AT) == READ {
+            DATA_SIZE
+        } else {
+            0
+        };
         Ok(part(cell, DATA_AT, length))
     }
 }

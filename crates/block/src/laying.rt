@@ -7,6 +7,7 @@ use crate::codes::READ;
 use crate::codes::WRITE;
 use class::DATA_AT;
 use class::DATA_SIZE;
+use class::HEADER_SIZE;
 use class::Request;
 use class::STATUS_AT;
 use class::cell_address;
@@ -18,7 +19,9 @@ use words::put64;
 use words::zero;
 
 pub(crate) const TYPE_AT: usize = 0;
+
 pub(crate) const SECTOR_AT: usize = 8;
+
 const RESERVED_AT: usize = 4;
 
 // The entry of a tag's request with this code: reads and writes have data, and the device writes only the status and a read's data.
@@ -28,16 +31,16 @@ pub(crate) fn entry_for(tag: u16, code: u32) -> Entry
     let at = cell_address(tag);
     let header = Segment {
         start: at,
-        length: 16,
+        length: HEADER_SIZE as u32,
         writable: false,
     };
     let bytes = Segment {
-        start: at + 16,
-        length: 512,
+        start: at + DATA_AT as u64,
+        length: DATA_SIZE as u32,
         writable: code == READ,
     };
     let status = Segment {
-        start: at + 528,
+        start: at + STATUS_AT as u64,
         length: 1,
         writable: true,
     };

@@ -38,7 +38,7 @@ record Passed (kind : Kind) (t : ℕ) (r : Asked) (cell store : List ℕ) : Type
   pub none-fits : carry-refusal t (kind .refuses r) (kind .least) cell store ≡ None
 
 all-passed : (kind : Kind) (t : ℕ) (r : Asked) (cell store : List ℕ)
-  → room-refusal (kind .least) cell store ≡ None → lay-refusal t (kind .refuses r) cell ≡ None → Passed kind t r cell store
+    → room-refusal (kind .least) cell store ≡ None → lay-refusal t (kind .refuses r) cell ≡ None → Passed kind t r cell store
 all-passed kind t r cell store h k =
     let a = passed CellSize (not (is-cell cell)) _ h in
     let b = passed StoreSize (not (is-store (kind .least) store)) None (a .1) in
@@ -48,9 +48,9 @@ all-passed kind t r cell store h k =
       whole-cell = eqb-true (length cell) cell-size (not-false (is-cell cell) (a .0));
       not-refused = d .0;
       none-fits =
-        cond-false (not (is-cell cell)) (Some CellSize) _ (a .0)
-        ∙ cond-false (not (is-store (kind .least) store)) (Some StoreSize) _ (b .0)
-        ∙ c .1
+          cond-false (not (is-cell cell)) (Some CellSize) _ (a .0)
+          ∙ cond-false (not (is-store (kind .least) store)) (Some StoreSize) _ (b .0)
+          ∙ c .1;
     }
 
 -- what the calls of laying, serving and reading the status gave and left, one after the other
@@ -77,7 +77,7 @@ abbrev given : ℕ → ℕ → Result Reply Refusal
 given s w = Ok (reply s w)
 
 pub carries : (kind : Kind) → Sound kind → (t : ℕ) (r : Asked) (cell store : List ℕ) → Sized r → (e : Entry) (laid-in : List ℕ) (w : ℕ) (served-in left : List ℕ) (s : ℕ)
-  → Chain kind t r cell store e laid-in w served-in left s → Through kind t r cell store w served-in left s
+    → Chain kind t r cell store e laid-in w served-in left s → Through kind t r cell store w served-in left s
 carries kind law t r cell store fit e laid-in w served-in left s c =
     let p = accepted (lay-refusal t (kind .refuses r) cell) e (kind .entry t r) (c .lay-answer) in
     let a = all-passed kind t r cell store (c .room) (p .0) in
@@ -93,8 +93,8 @@ carries kind law t r cell store fit e laid-in w served-in left s c =
     let free = sym (a .none-fits) in
     record {
       same-reply = ap (λ x. given x w) status-told ∙ ap (given (kind .plain store r .answer .status)) length-told
-        ∙ ap (λ o. unless o (reply (kind .plain store r .answer .status) (kind .plain store r .answer .written))) free;
+          ∙ ap (λ o. unless o (reply (kind .plain store r .answer .status) (kind .plain store r .answer .written))) free;
       same-data = ap (kind .shows) now ∙ law .shows-data r cell store fit (a .not-refused) (a .whole-cell);
       same-store = kept-store ∙ ap (λ o. kept o store (kind .plain store r .store)) free;
-      same-cell = now ∙ ap (λ o. kept o cell (kind .answers (kind .plain store r .answer) (kind .lays r cell))) free
+      same-cell = now ∙ ap (λ o. kept o cell (kind .answers (kind .plain store r .answer) (kind .lays r cell))) free;
     }

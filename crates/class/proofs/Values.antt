@@ -15,6 +15,6 @@ same-asked c p bs r a b d = ap (λ x. made x p bs) a ∙ ap (λ x. made (r .code
 
 -- where a test says whether an entry and its cell state the request r
 pub by-stated : (P : Effect → Type 0) (kind : Kind) (b : Bool) (r : Asked) (cell store : List ℕ)
-  → P (record { written = 0; cell = cell; store = store }) → (b ≡ true → P (answered kind (kind .plain store r) cell)) → P (effect-of kind (cond b (Some r) None) cell store)
+    → P (record { written = 0; cell = cell; store = store }) → (b ≡ true → P (answered kind (kind .plain store r) cell)) → P (effect-of kind (cond b (Some r) None) cell store)
 by-stated P kind false r cell store u s = u
 by-stated P kind true r cell store u s = s refl

@@ -1,9 +1,10 @@
 -- Where cells lie, and what lies where in one. Assumes nothing.
 use mathlib.Core.Bool.{Bool}
 use mathlib.Core.List.{List}
-use Prim.Native.Nat.{ℕ, _*_}
+use Prim.Native.Nat.{ℕ, _+_, _*_}
 use lib.Dec.{eqb}
 use lib.ListN.{length}
+use Rattle.entries.specs.declared.shapes.Segment.{Segment}
 
 -- the bytes of a cell, and what its three parts start at
 abbrev pub cell-size : ℕ
@@ -21,6 +22,10 @@ status-at = 528
 -- the address of tag t's cell: where it starts among all cells
 abbrev pub address : ℕ → ℕ
 address t = 544 * t
+
+-- n bytes of tag t's cell from at on, as a segment
+abbrev pub segment : ℕ → ℕ → ℕ → Bool → Segment
+segment t at n w = record { start = address t + at; length = n; writable = w }
 
 abbrev pub is-cell : List ℕ → Bool
 is-cell cell = eqb (length cell) cell-size

@@ -30,9 +30,9 @@ pub record Sound (kind : Kind) : Type 0 where
   pub reads-back : (t : ℕ) (r : Asked) (cell : List ℕ) → Sized r → kind .refuses r ≡ false → length cell ≡ cell-size → kind .reads (kind .entry t r) (kind .lays r cell) ≡ Some r
   -- and what the plain service answers is what the cell shows then
   pub shows-status : (r : Asked) (cell store : List ℕ) → Sized r → kind .refuses r ≡ false → length cell ≡ cell-size
-    → kind .status (kind .answers (kind .plain store r .answer) (kind .lays r cell)) ≡ kind .plain store r .answer .status
+      → kind .status (kind .answers (kind .plain store r .answer) (kind .lays r cell)) ≡ kind .plain store r .answer .status
   pub shows-data : (r : Asked) (cell store : List ℕ) → Sized r → kind .refuses r ≡ false → length cell ≡ cell-size
-    → kind .shows (kind .answers (kind .plain store r .answer) (kind .lays r cell)) ≡ kind .plain store r .answer .bytes
+      → kind .shows (kind .answers (kind .plain store r .answer) (kind .lays r cell)) ≡ kind .plain store r .answer .bytes
   -- cells and stores keep their length
   pub lays-length : (r : Asked) (cell : List ℕ) → length (kind .lays r cell) ≡ length cell
   pub serves-length : (e : Entry) (cell store : List ℕ) → length (effect kind e cell store .cell) ≡ length cell

@@ -17,9 +17,9 @@ pub record Laid : Type 0 where
 
 abbrev pub laid : Kind → ℕ → Asked → List ℕ → Laid
 laid kind t r cell = let refusal = lay-refusal t (kind .refuses r) cell in record {
-    answer = unless refusal (kind .entry t r);
-    cell = kept refusal cell (kind .lays r cell)
-    }
+  answer = unless refusal (kind .entry t r);
+  cell = kept refusal cell (kind .lays r cell);
+}
 
 -- what serving an entry writes: nothing where the entry and its cell state no request
 pub record Effect : Type 0 where
@@ -44,10 +44,10 @@ pub record Served : Type 0 where
 
 abbrev pub served : Kind → Entry → List ℕ → List ℕ → Served
 served kind e cell store = let refusal = serve-refusal (e .tag) (kind .least) cell store in record {
-    answer = unless refusal (effect kind e cell store .written);
-    cell = kept refusal cell (effect kind e cell store .cell);
-    store = kept refusal store (effect kind e cell store .store)
-    }
+  answer = unless refusal (effect kind e cell store .written);
+  cell = kept refusal cell (effect kind e cell store .cell);
+  store = kept refusal store (effect kind e cell store .store);
+}
 
 abbrev pub status-of : Kind → List ℕ → Result ℕ Refusal
 status-of kind cell = unless (read-refusal cell) (kind .status cell)
@@ -63,7 +63,7 @@ pub record Carried : Type 0 where
 
 abbrev pub carried : Kind → ℕ → Asked → List ℕ → List ℕ → Carried
 carried kind t r cell store = let refusal = carry-refusal t (kind .refuses r) (kind .least) cell store in let s = kind .plain store r in record {
-    answer = unless refusal (record { status = s .answer .status; written = s .answer .written });
-    cell = kept refusal cell (kind .answers (s .answer) (kind .lays r cell));
-    store = kept refusal store (s .store)
-    }
+  answer = unless refusal (record { status = s .answer .status; written = s .answer .written });
+  cell = kept refusal cell (kind .answers (s .answer) (kind .lays r cell));
+  store = kept refusal store (s .store);
+}

@@ -11,7 +11,12 @@ use crate::requests::Request;
 use entries::Refusal;
 
 // Lays a request and serves it. What comes of it is what the class's plain service says; the data lies in the cell.
-pub fn carry<C: Class>(tag: u16, request: Request<'_>, cell: &mut [u8], store: &mut [u8]) -> Result<Reply, Refusal>
+pub fn carry<C: Class>(
+    tag: u16,
+    request: Request<'_>,
+    cell: &mut [u8],
+    store: &mut [u8],
+) -> Result<Reply, Refusal>
     ensures plain_reply { λ r. ⌜ r ≡ carried kind tag (asked (request .entry)) (now (cell .entry)) (now (store .entry)) .answer ⌝ }
     ensures plain_data { λ r. ⌜ (isOk r ≡ true → kind .shows (now (cell .exit)) ≡ kind .plain (now (store .entry)) (asked (request .entry)) .answer .bytes) ⌝ }
     ensures plain_store { λ _. ⌜ now (store .exit) ≡ carried kind tag (asked (request .entry)) (now (cell .entry)) (now (store .entry)) .store ⌝ }

@@ -3,9 +3,13 @@ ghost use mathlib.Core.Path.{_≡_};
 ghost use Rattle.class.specs.Cells.{address};
 
 pub const CELL_SIZE: usize = 544;
+
 pub const HEADER_SIZE: usize = 16;
+
 pub const DATA_AT: usize = 16;
+
 pub const DATA_SIZE: usize = 512;
+
 pub const STATUS_AT: usize = 528;
 
 // Where a tag's cell starts among all cells: the address that segments carry.

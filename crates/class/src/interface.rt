@@ -11,6 +11,7 @@ use entries::Refusal;
 pub trait Class {
     // The most segments of an entry, and the least bytes of a store.
     const LONGEST_CHAIN: usize;
+
     const LEAST_STORE: usize;
 
     // What the class means.

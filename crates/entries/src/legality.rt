@@ -60,6 +60,10 @@ impl Entry {
     {
         let [a, b, c] = self.segments;
         let [x, y, z] = other.segments;
-        self.tag == other.tag && self.count == other.count && a.is_same(&x) && b.is_same(&y) && c.is_same(&z)
+        self.tag == other.tag
+            && self.count == other.count
+            && a.is_same(&x)
+            && b.is_same(&y)
+            && c.is_same(&z)
     }
 }

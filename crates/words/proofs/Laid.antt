@@ -33,6 +33,12 @@ overwrite-outside at new xs h = grind (arith, tells)
 pub length-part : (at k : ℕ) (xs : List ℕ) → at + k ≤ length xs → length (part at k xs) ≡ k
 length-part at k xs h = rw (part-within) (search (needs, places))
 
+pub length-part-le : (at k : ℕ) (xs : List ℕ) → length (part at k xs) ≤ k
+length-part-le at k xs = elim (leb-tells (at + k) (length xs)) [
+      inl t ↦ omega (arith, length-part at k xs (t .1))
+    | inr t ↦ omega (arith, ap (λ (ys : List ℕ). length ys) (part-outside at k xs (t .1)))
+    ]
+
 length-written : (at : ℕ) (new xs : List ℕ) → at + length new ≤ length xs → length (take at xs ++ (new ++ drop (at + length new) xs)) ≡ length xs
 length-written at new xs h = search (needs, places)
 
@@ -41,7 +47,7 @@ unfolding overwrite
 length-overwrite at new xs = grind (arith, tells, length-written)
 
 byte-written-apart : (at : ℕ) (new xs : List ℕ) (i d : ℕ) → at + length new ≤ length xs → (i < at) ⊎ (at + length new ≤ i)
-  → getD (take at xs ++ (new ++ drop (at + length new) xs)) i d ≡ getD xs i d
+    → getD (take at xs ++ (new ++ drop (at + length new) xs)) i d ≡ getD xs i d
 byte-written-apart at new xs i d h (inl p) = search (needs, places)
 byte-written-apart at new xs i d h (inr p) = search (needs, places)
 
@@ -64,12 +70,13 @@ pub part-apart : (p k at : ℕ) (new xs : List ℕ) → (p + k ≤ at) ⊎ (at +
 part-apart p k at new xs q =
     let l = length-overwrite at new xs in
     elim (leb-tells (p + k) (length xs)) [
-      inl t ↦ same-lists _ _ (length-part p k (overwrite at new xs) (omega arith) ∙ sym (length-part p k xs (t .1))) (λ i d h. same t i d (omega (arith, length-part p k (overwrite at new xs) (omega arith))))
-    | inr t ↦ part-outside p k (overwrite at new xs) (omega arith) ∙ sym (part-outside p k xs (t .1))
+      | inl t ↦ same-lists _ _ (length-part p k (overwrite at new xs) (omega arith) ∙ sym (length-part p k xs (t .1))) (λ i d h. same t i d (omega (arith, length-part p k (overwrite at new xs) (omega arith))))
+      | inr t ↦ part-outside p k (overwrite at new xs) (omega arith) ∙ sym (part-outside p k xs (t .1))
     ]
   where
     byte : (ys : List ℕ) (i d : ℕ) → p + k ≤ length ys → i < k → getD (part p k ys) i d ≡ getD ys (p + i) d
     byte ys i d h l = ap (λ (zs : List ℕ). getD zs i d) (part-within p k ys h) ∙ getD-take k (drop p ys) i d l ∙ getD-drop p ys i d
+
     same : (leb (p + k) (length xs) ≡ true) × (p + k ≤ length xs) → (i d : ℕ) → i < k → getD (part p k (overwrite at new xs)) i d ≡ getD (part p k xs) i d
     same t i d h =
         let l = length-overwrite at new xs in
@@ -99,7 +106,7 @@ part-read at k xs h =
     ap (λ n. take n (drop at xs)) e ∙ sym (part-within at k xs w)
 
 pub part-written : (at k : ℕ) (now new xs : List ℕ) → true ≡ leb (at + k) (length xs) → length new ≡ k → now ≡ new
-  → putMid at (at + k - at) xs now ≡ overwrite at new xs
+    → putMid at (at + k - at) xs now ≡ overwrite at new xs
 part-written at k now new xs h l e =
     let w : at + k ≤ length xs = grind (arith, tells) in
     let o : at + length new ≤ length xs = omega arith in

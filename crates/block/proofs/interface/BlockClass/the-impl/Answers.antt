@@ -9,15 +9,15 @@ use Rattle.block.proofs.interface.BlockClass.the-impl.Needs as need
 
 pub sound-law : need.sound-law
 sound-law = record {
-    legal-entry = λ t r h _. legal-entry t (r .code) h;
-    own-tag = λ t r. own-tag t (r .code);
-    within-longest = λ t r. within-longest t (r .code);
-    reads-back = λ t r cell fit kept whole. read-back r cell fit kept whole t;
-    shows-status = λ r cell store fit kept whole. status-shown (plain store r .answer) (lays r cell) (lays-length r cell ∙ whole);
-    shows-data = data-shown;
-    lays-length = lays-length;
-    serves-length = serves-length;
-    store-length = store-length;
-    lays-only-named = lays-only-named;
-    serves-only-writable = serves-only-writable
-    }
+  legal-entry = λ t r h _. legal-entry t (r .code) h;
+  own-tag = λ t r. own-tag t (r .code);
+  within-longest = λ t r. within-longest t (r .code);
+  reads-back = λ t r cell fit kept whole. read-back r cell fit kept whole t;
+  shows-status = λ r cell store fit kept whole. status-shown (plain store r .answer) (lays r cell) (lays-length r cell ∙ whole);
+  shows-data = data-shown;
+  lays-length = lays-length;
+  serves-length = serves-length;
+  store-length = store-length;
+  lays-only-named = lays-only-named;
+  serves-only-writable = serves-only-writable;
+}

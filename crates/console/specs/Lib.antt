@@ -1,0 +1,4 @@
+pub mod Requests
+pub mod Layout
+pub mod Service
+pub mod Class

@@ -1,0 +1,7 @@
+// The console class: text appended to a store that counts what it keeps and what it loses.
+mod interface;
+mod lines;
+mod stores;
+
+pub use interface::Console;
+pub use interface::ConsoleClass;
