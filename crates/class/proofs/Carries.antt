@@ -1,11 +1,11 @@
 -- A request that is laid and then served is the plain service's, whatever the class.
-use mathlib.Core.Path.{_≡_, refl, sym, ap, _∙_}
+use mathlib.Core.Path.{_≡_, refl, sym, ap, subst, _∙_}
 use mathlib.Core.Bool.{Bool, true, false, cond, not}
 use mathlib.Core.List.{List}
 use Prim.Native.Nat.{ℕ, _+_, _<_, _≤_}
 use native.Mathlib.Omega.{arith}
 use lib.Dec.{ltb, eqb}
-use lib.ListN.{length}
+use lib.ListN.{length, getD}
 use Rattle.std.specs.declared.option.Option.{Option}
 use Rattle.std.specs.declared.option.Option.the-variants.{Some, None}
 use Rattle.std.specs.declared.result.Result.{Result}
@@ -18,9 +18,9 @@ use Rattle.entries.specs.Refusals.{refuse, unless, kept}
 use Rattle.class.specs.declared.requests.Reply.{Reply}
 use Rattle.class.specs.Cells.{is-cell, cell-size}
 use Rattle.class.specs.Refusals.{is-store, lay-refusal, room-refusal, serve-refusal, carry-refusal, read-refusal}
-use Rattle.class.specs.Kinds.{Asked, Sized, Kind}
+use Rattle.class.specs.Kinds.{Asked, Sized, Service, Kind}
 use Rattle.class.specs.Rules.{laid, Effect, effect, effect-of, answered, served, status-of, carried}
-use Rattle.class.specs.Laws.{Sound}
+use Rattle.class.specs.Laws.{Lawful, Named}
 
 -- a call that was accepted met no refusal, and gives and leaves what it says
 pub accepted : {A : Type 0} (o : Option Refusal) (x y : A) → Ok x ≡ unless o y → (o ≡ None) × (x ≡ y)
@@ -53,6 +53,12 @@ all-passed kind t r cell store h k =
           ∙ c .1;
     }
 
+abbrev reply : ℕ → ℕ → Reply
+reply s w = record { status = s; written = w }
+
+abbrev given : ℕ → ℕ → Result Reply Refusal
+given s w = Ok (reply s w)
+
 -- what the calls of laying, serving and reading the status gave and left, one after the other
 pub record Chain (kind : Kind) (t : ℕ) (r : Asked) (cell store : List ℕ) (e : Entry) (laid-in : List ℕ) (w : ℕ) (served-in left : List ℕ) (s : ℕ) : Type 0 where
   pub room : room-refusal (kind .least) cell store ≡ None
@@ -63,38 +69,69 @@ pub record Chain (kind : Kind) (t : ℕ) (r : Asked) (cell store : List ℕ) (e 
   pub serve-store : left ≡ served kind e laid-in store .store
   pub status-answer : Ok s ≡ status-of kind served-in
 
--- what carrying a request through promises of it
-pub record Through (kind : Kind) (t : ℕ) (r : Asked) (cell store : List ℕ) (w : ℕ) (served-in left : List ℕ) (s : ℕ) : Type 0 where
-  pub same-reply : Ok (record { status = s; written = w }) ≡ carried kind t r cell store .answer
-  pub same-data : kind .shows served-in ≡ kind .plain store r .answer .bytes
+-- from what the calls gave, one after the other, what carrying a request through promises
+module _ (kind : Kind) (law : Lawful kind) (t : ℕ) (r : Asked) (cell store : List ℕ) (fit : Sized r)
+    (e : Entry) (laid-in : List ℕ) (w : ℕ) (served-in left : List ℕ) (s : ℕ) (c : Chain kind t r cell store e laid-in w served-in left s) where
+  abbrev service : Service
+  service = kind .plain store r
+
+  lay-accepted : (lay-refusal t (kind .refuses r) cell ≡ None) × (e ≡ kind .entry t r)
+  lay-accepted = accepted (lay-refusal t (kind .refuses r) cell) e (kind .entry t r) (c .lay-answer)
+
+  serve-accepted : (serve-refusal (e .tag) (kind .least) laid-in store ≡ None) × (w ≡ effect kind e laid-in store .written)
+  serve-accepted = accepted (serve-refusal (e .tag) (kind .least) laid-in store) w (effect kind e laid-in store .written) (c .serve-answer)
+
+  status-read : s ≡ kind .status served-in
+  status-read = accepted (read-refusal served-in) s (kind .status served-in) (c .status-answer) .1
+
+  clear : Passed kind t r cell store
+  clear = all-passed kind t r cell store (c .room) (lay-accepted .0)
+
+  was-laid : laid-in ≡ kind .lays r cell
+  was-laid = c .lay-cell ∙ ap (λ o. kept o cell (kind .lays r cell)) (lay-accepted .0)
+
+  was-read : kind .reads e laid-in ≡ Some r
+  was-read =
+      ap (λ (d : Entry). kind .reads d laid-in) (lay-accepted .1)
+      ∙ ap (kind .reads (kind .entry t r)) was-laid
+      ∙ law .reads-back t r cell fit (clear .not-refused) (clear .whole-cell)
+
+  was-served : effect kind e laid-in store ≡ answered kind service (kind .lays r cell)
+  was-served = ap (λ o. effect-of kind o laid-in store) was-read ∙ ap (answered kind service) was-laid
+
+  served-cell : served-in ≡ effect kind e laid-in store .cell
+  served-cell = c .serve-cell ∙ ap (λ o. kept o laid-in (effect kind e laid-in store .cell)) (serve-accepted .0)
+
+  cell-is : served-in ≡ kind .answers (service .answer) (kind .lays r cell)
+  cell-is = served-cell ∙ ap (λ (x : Effect). x .cell) was-served
+
+  store-is : left ≡ service .store
+  store-is = c .serve-store ∙ ap (λ o. kept o store (effect kind e laid-in store .store)) (serve-accepted .0) ∙ ap (λ (x : Effect). x .store) was-served
+
+  written-is : w ≡ service .answer .written
+  written-is = serve-accepted .1 ∙ ap (λ (x : Effect). x .written) was-served
+
+  status-is : s ≡ service .answer .status
+  status-is = status-read ∙ ap (kind .status) cell-is ∙ law .shows-status r cell store fit (clear .not-refused) (clear .whole-cell)
+
+  pub same-reply : Ok (reply s w) ≡ carried kind t r cell store .answer
+  same-reply =
+      ap (λ x. given x w) status-is
+      ∙ ap (given (service .answer .status)) written-is
+      ∙ ap (λ o. unless o (reply (service .answer .status) (service .answer .written))) (sym (clear .none-fits))
+
+  pub same-data : kind .shows served-in ≡ service .answer .bytes
+  same-data = ap (kind .shows) cell-is ∙ law .shows-data r cell store fit (clear .not-refused) (clear .whole-cell)
+
   pub same-store : left ≡ carried kind t r cell store .store
+  same-store = store-is ∙ ap (λ o. kept o store (service .store)) (sym (clear .none-fits))
+
   pub same-cell : served-in ≡ carried kind t r cell store .cell
+  same-cell = cell-is ∙ ap (λ o. kept o cell (kind .answers (service .answer) (kind .lays r cell))) (sym (clear .none-fits))
 
-abbrev reply : ℕ → ℕ → Reply
-reply s w = record { status = s; written = w }
-
-abbrev given : ℕ → ℕ → Result Reply Refusal
-given s w = Ok (reply s w)
-
-pub carries : (kind : Kind) → Sound kind → (t : ℕ) (r : Asked) (cell store : List ℕ) → Sized r → (e : Entry) (laid-in : List ℕ) (w : ℕ) (served-in left : List ℕ) (s : ℕ)
-    → Chain kind t r cell store e laid-in w served-in left s → Through kind t r cell store w served-in left s
-carries kind law t r cell store fit e laid-in w served-in left s c =
-    let p = accepted (lay-refusal t (kind .refuses r) cell) e (kind .entry t r) (c .lay-answer) in
-    let a = all-passed kind t r cell store (c .room) (p .0) in
-    let q = accepted (serve-refusal (e .tag) (kind .least) laid-in store) w (effect kind e laid-in store .written) (c .serve-answer) in
-    let u = accepted (read-refusal served-in) s (kind .status served-in) (c .status-answer) in
-    let l : laid-in ≡ kind .lays r cell = c .lay-cell ∙ ap (λ o. kept o cell (kind .lays r cell)) (p .0) in
-    let reads : kind .reads e laid-in ≡ Some r = ap (λ (d : Entry). kind .reads d laid-in) (p .1) ∙ ap (kind .reads (kind .entry t r)) l ∙ law .reads-back t r cell fit (a .not-refused) (a .whole-cell) in
-    let does : effect kind e laid-in store ≡ answered kind (kind .plain store r) (kind .lays r cell) = ap (λ o. effect-of kind o laid-in store) reads ∙ ap (answered kind (kind .plain store r)) l in
-    let now : served-in ≡ kind .answers (kind .plain store r .answer) (kind .lays r cell) = c .serve-cell ∙ ap (λ o. kept o laid-in (effect kind e laid-in store .cell)) (q .0) ∙ ap (λ (x : Effect). x .cell) does in
-    let kept-store : left ≡ kind .plain store r .store = c .serve-store ∙ ap (λ o. kept o store (effect kind e laid-in store .store)) (q .0) ∙ ap (λ (x : Effect). x .store) does in
-    let length-told : w ≡ kind .plain store r .answer .written = q .1 ∙ ap (λ (x : Effect). x .written) does in
-    let status-told : s ≡ kind .plain store r .answer .status = u .1 ∙ ap (kind .status) now ∙ law .shows-status r cell store fit (a .not-refused) (a .whole-cell) in
-    let free = sym (a .none-fits) in
-    record {
-      same-reply = ap (λ x. given x w) status-told ∙ ap (given (kind .plain store r .answer .status)) length-told
-          ∙ ap (λ o. unless o (reply (kind .plain store r .answer .status) (kind .plain store r .answer .written))) free;
-      same-data = ap (kind .shows) now ∙ law .shows-data r cell store fit (a .not-refused) (a .whole-cell);
-      same-store = kept-store ∙ ap (λ o. kept o store (kind .plain store r .store)) free;
-      same-cell = now ∙ ap (λ o. kept o cell (kind .answers (kind .plain store r .answer) (kind .lays r cell))) free;
-    }
+  pub rest-stays : (i : ℕ) → (Named (kind .entry t r) i → ⊥) → getD served-in i 0 ≡ getD cell i 0
+  rest-stays i h =
+      ap (λ (x : List ℕ). getD x i 0) served-cell
+      ∙ law .serves-only-writable e laid-in store i (λ v. h (subst (λ (d : Entry). Named d i) (lay-accepted .1) (v .0, v .1, v .3)))
+      ∙ ap (λ (x : List ℕ). getD x i 0) was-laid
+      ∙ law .lays-only-named t r cell i (clear .not-refused) h

@@ -21,7 +21,7 @@ Named e i = (k : ℕ) × (k < e .count) × In-segment e k i
 abbrev pub Writable : Entry → ℕ → Type 0
 Writable e i = (k : ℕ) × (k < e .count) × (place e k .writable ≡ true) × In-segment e k i
 
-pub record Sound (kind : Kind) : Type 0 where
+pub record Lawful (kind : Kind) : Type 0 where
   -- laying gives a legal entry of the tag, within the longest chain
   pub legal-entry : (t : ℕ) (r : Asked) → t ≤ 15 → kind .refuses r ≡ false → legal (kind .entry t r) ≡ true
   pub own-tag : (t : ℕ) (r : Asked) → kind .entry t r .tag ≡ t

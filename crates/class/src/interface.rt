@@ -3,7 +3,7 @@ ghost use mathlib.Core.Path.{_≡_};
 ghost use Rattle.std.specs.declared.result.Result.the-variants.{Ok, Err};
 ghost use Rattle.class.specs.Kinds.{Kind, asked};
 ghost use Rattle.class.specs.Rules.{laid, served, status-of, data-of};
-ghost use Rattle.class.specs.Laws.{Sound};
+ghost use Rattle.class.specs.Laws.{Lawful};
 use crate::requests::Request;
 use entries::Entry;
 use entries::Refusal;
@@ -18,7 +18,7 @@ pub trait Class {
     ghost kind: { Kind };
 
     // A request laid and then served is the plain service's.
-    law sound: { Sound kind };
+    law lawful: { Lawful kind };
 
     // The constants, where a contract has to speak of them.
     fn chain_limit() -> usize

@@ -7,14 +7,14 @@ use Rattle.console.specs.Service.{plain, answers, status, shows}
 
 abbrev pub console : Kind
 console = record {
-    longest = 1;
-    least = 8;
-    refuses = refused;
-    entry = λ t r. entry-for t (length (r .payload));
-    lays = lays;
-    reads = reads;
-    plain = plain;
-    answers = answers;
-    status = status;
-    shows = shows
-    }
+  longest = 1;
+  least = 8;
+  refuses = refused;
+  entry = λ t r. entry-for t (length (r .payload));
+  lays = lays;
+  reads = reads;
+  plain = plain;
+  answers = answers;
+  status = status;
+  shows = shows;
+}

@@ -20,6 +20,7 @@ pub struct Console;
 
 pub impl Class for Console as ConsoleClass {
     const LONGEST_CHAIN: usize = 1;
+
     const LEAST_STORE: usize = 8;
 
     ghost kind = { console };

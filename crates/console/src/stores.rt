@@ -8,7 +8,9 @@ use words::overwrite;
 use words::put32;
 
 const KEPT_AT: usize = 0;
+
 const LOST_AT: usize = 4;
+
 const TEXT_AT: usize = 8;
 
 // Appends what fits after the kept text. The rest is lost, and counted up to the largest count there is.
@@ -19,9 +21,16 @@ pub(crate) fn append_line(line: &[u8], store: &mut [u8])
     let kept = get32(store, KEPT_AT);
     let lost = get32(store, LOST_AT);
     // a count beyond the end leaves no room
-    let room = store.len().saturating_sub(TEXT_AT).saturating_sub(kept as usize);
+    let room = store
+        .len()
+        .saturating_sub(TEXT_AT)
+        .saturating_sub(kept as usize);
     let fits = line.len().min(room);
     overwrite(store, TEXT_AT + kept as usize, &line[0..fits]);
     put32(store, KEPT_AT, kept + fits as u32);
-    put32(store, LOST_AT, lost.saturating_add((line.len() - fits) as u32));
+    put32(
+        store,
+        LOST_AT,
+        lost.saturating_add((line.len() - fits) as u32),
+    );
 }

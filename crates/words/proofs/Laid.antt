@@ -35,9 +35,9 @@ length-part at k xs h = rw (part-within) (search (needs, places))
 
 pub length-part-le : (at k : ℕ) (xs : List ℕ) → length (part at k xs) ≤ k
 length-part-le at k xs = elim (leb-tells (at + k) (length xs)) [
-      inl t ↦ omega (arith, length-part at k xs (t .1))
-    | inr t ↦ omega (arith, ap (λ (ys : List ℕ). length ys) (part-outside at k xs (t .1)))
-    ]
+  | inl t ↦ omega (arith, length-part at k xs (t .1))
+  | inr t ↦ omega (arith, ap (λ (ys : List ℕ). length ys) (part-outside at k xs (t .1)))
+]
 
 length-written : (at : ℕ) (new xs : List ℕ) → at + length new ≤ length xs → length (take at xs ++ (new ++ drop (at + length new) xs)) ≡ length xs
 length-written at new xs h = search (needs, places)

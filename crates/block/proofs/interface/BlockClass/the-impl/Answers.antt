@@ -7,8 +7,8 @@ use Rattle.block.proofs.Shown.{status-shown, data-shown}
 use Rattle.block.proofs.Touched.{lays-only-named, serves-only-writable, serves-length, store-length}
 use Rattle.block.proofs.interface.BlockClass.the-impl.Needs as need
 
-pub sound-law : need.sound-law
-sound-law = record {
+pub lawful-law : need.lawful-law
+lawful-law = record {
   legal-entry = λ t r h _. legal-entry t (r .code) h;
   own-tag = λ t r. own-tag t (r .code);
   within-longest = λ t r. within-longest t (r .code);
