@@ -1,5 +1,6 @@
 // The block class: reads, writes and flushes of 512-byte sectors.
 mod codes;
+mod disks;
 mod interface;
 mod laying;
 mod serving;
@@ -11,5 +12,6 @@ pub use codes::READ;
 pub use codes::SECTOR_SIZE;
 pub use codes::UNSUPPORTED;
 pub use codes::WRITE;
+pub use disks::sectors;
 pub use interface::Block;
 pub use interface::BlockClass;

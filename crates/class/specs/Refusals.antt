@@ -27,6 +27,11 @@ lay-refusal t bad cell =
     (refuse BadEntry (ltb 15 t)
     None))
 
+abbrev pub store-refusal : ℕ → List ℕ → Option Refusal
+store-refusal least store =
+    refuse StoreSize (not (is-store least store))
+    None
+
 abbrev pub room-refusal : ℕ → List ℕ → List ℕ → Option Refusal
 room-refusal least cell store =
     refuse CellSize (not (is-cell cell))

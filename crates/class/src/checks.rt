@@ -1,7 +1,7 @@
 // The refusals that every class shares, asked before a call touches a byte.
 ghost use mathlib.Core.Path.{_≡_};
 ghost use Rattle.entries.specs.Refusals.{unless};
-ghost use Rattle.class.specs.Refusals.{is-store, lay-refusal, serve-refusal, read-refusal, room-refusal};
+ghost use Rattle.class.specs.Refusals.{read-refusal, lay-refusal, store-refusal, room-refusal, serve-refusal};
 use crate::cells::CELL_SIZE;
 use entries::Entry;
 use entries::LAST_TAG;
@@ -34,15 +34,22 @@ pub fn check_lay(tag: u16, bad: bool, cell: &[u8]) -> Result<(), Refusal>
     Ok(())
 }
 
-// Of what is lent for serving: a cell, and a store that the class can work on.
-pub fn check_room(least: usize, cell: &[u8], store: &[u8]) -> Result<(), Refusal>
-    ensures smallest_that_fits { λ r. ⌜ r ≡ unless (room-refusal least (now (cell .entry)) (now (store .entry))) tt ⌝ }
+// Of a store: the class has to be able to work on it.
+pub fn check_store(least: usize, store: &[u8]) -> Result<(), Refusal>
+    ensures smallest_that_fits { λ r. ⌜ r ≡ unless (store-refusal least (now (store .entry))) tt ⌝ }
 {
-    check_read(cell)?;
     if store.len() < least || store.len() > LARGEST_STORE {
         return Err(Refusal::StoreSize);
     }
     Ok(())
+}
+
+// Of what is lent for serving: a cell and a store.
+pub fn check_room(least: usize, cell: &[u8], store: &[u8]) -> Result<(), Refusal>
+    ensures smallest_that_fits { λ r. ⌜ r ≡ unless (room-refusal least (now (cell .entry)) (now (store .entry))) tt ⌝ }
+{
+    check_read(cell)?;
+    check_store(least, store)
 }
 
 // Of serving an entry.

@@ -17,6 +17,7 @@ pub use checks::check_lay;
 pub use checks::check_read;
 pub use checks::check_room;
 pub use checks::check_serve;
+pub use checks::check_store;
 pub use interface::Class;
 pub use requests::Reply;
 pub use requests::Request;

@@ -1,0 +1,19 @@
+// A block store as a disk: whole sectors, each of which keeps what was last written to it.
+ghost use Prim.Native.Nat.{_/_};
+ghost use mathlib.Core.Path.{_≡_};
+ghost use lib.ListN.{length};
+ghost use Rattle.entries.specs.Refusals.{unless};
+ghost use Rattle.class.specs.Refusals.{store-refusal};
+ghost use Rattle.block.specs.Disk.{Disk};
+use crate::codes::SECTOR_SIZE;
+use class::check_store;
+use entries::Refusal;
+
+// How many sectors a store has. A partial last one does not count.
+pub fn sectors(store: &[u8]) -> Result<u64, Refusal>
+    ensures whole_sectors { λ r. ⌜ r ≡ unless (store-refusal 512 (now (store .entry))) (length (now (store .entry)) / 512) ⌝ }
+    ensures keeps_what_is_written { λ _. ⌜ Disk (now (store .entry)) ⌝ }
+{
+    check_store(SECTOR_SIZE, store)?;
+    Ok((store.len() / SECTOR_SIZE) as u64)
+}
