@@ -60,8 +60,8 @@ others-stay store m n bytes d l true h =
 
 pub disk : (store : List ℕ) → Disk store
 disk store = record {
-    written-sector-reads-back = reads-back store;
-    other-sectors-stay = λ m n bytes d l. others-stay store m n bytes d l (has-sector store n) refl;
-    missing-sector-takes-nothing = written-missing store;
-    only-writes-change = λ r h. grind (arith, tells)
-    }
+  written-sector-reads-back = reads-back store;
+  other-sectors-stay = λ m n bytes d l. others-stay store m n bytes d l (has-sector store n) refl;
+  missing-sector-takes-nothing = written-missing store;
+  only-writes-change = λ r h. grind (arith, tells);
+}

@@ -20,8 +20,8 @@ written store n bytes = plain store (write n bytes) .store
 
 pub record Disk (store : List ℕ) : Type 0 where
   pub written-sector-reads-back : (n : ℕ) (bytes : List ℕ) → has-sector store n ≡ true → length bytes ≡ 512
-    → plain (written store n bytes) (read n) .answer ≡ record { status = 0; bytes = bytes; written = 513 }
+      → plain (written store n bytes) (read n) .answer ≡ record { status = 0; bytes = bytes; written = 513 }
   pub other-sectors-stay : (m n : ℕ) (bytes : List ℕ) → (m ≡ n → ⊥) → length bytes ≡ 512
-    → plain (written store n bytes) (read m) .answer ≡ plain store (read m) .answer
+      → plain (written store n bytes) (read m) .answer ≡ plain store (read m) .answer
   pub missing-sector-takes-nothing : (n : ℕ) (bytes : List ℕ) → has-sector store n ≡ false → written store n bytes ≡ store
   pub only-writes-change : (r : Asked) → is-write (r .code) ≡ false → plain store r .store ≡ store

@@ -1,4 +1,5 @@
 pub mod Requests
 pub mod Layout
 pub mod Service
+pub mod Log
 pub mod Class

@@ -3,6 +3,7 @@ ghost use Rattle.console.specs.Class.{console};
 use crate::lines::entry_for;
 use crate::lines::is_refused;
 use crate::lines::is_sendable;
+use crate::stores;
 use crate::stores::append_line;
 use class::Class;
 use class::DATA_AT;
@@ -21,7 +22,7 @@ pub struct Console;
 pub impl Class for Console as ConsoleClass {
     const LONGEST_CHAIN: usize = 1;
 
-    const LEAST_STORE: usize = 8;
+    const LEAST_STORE: usize = stores::LEAST_STORE;
 
     ghost kind = { console };
 

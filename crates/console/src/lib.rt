@@ -5,3 +5,6 @@ mod stores;
 
 pub use interface::Console;
 pub use interface::ConsoleClass;
+pub use stores::Counts;
+pub use stores::tally;
+pub use stores::text;

@@ -2,10 +2,18 @@
 ghost use Prim.Native.Nat.{_^_, _≤_};
 ghost use mathlib.Core.Path.{_≡_};
 ghost use lib.ListN.{length};
-ghost use Rattle.console.specs.Service.{append};
+ghost use Rattle.std.specs.declared.result.Result.the-variants.{Ok, Err};
+ghost use Rattle.entries.specs.Refusals.{unless};
+ghost use Rattle.class.specs.Refusals.{store-refusal};
+ghost use Rattle.console.specs.Service.{kept-in, lost-in, append};
+ghost use Rattle.console.specs.Log.{text-in, Every-byte-counted, Text-grows};
+use class::check_store;
+use entries::Refusal;
 use words::get32;
 use words::overwrite;
 use words::put32;
+
+pub(crate) const LEAST_STORE: usize = 8;
 
 const KEPT_AT: usize = 0;
 
@@ -33,4 +41,33 @@ pub(crate) fn append_line(line: &[u8], store: &mut [u8])
         LOST_AT,
         lost.saturating_add((line.len() - fits) as u32),
     );
+}
+
+// How many bytes of text a store has kept, and how many it had no room for.
+#[derive(Clone, Copy, PartialEq, Eq, Debug)]
+pub struct Counts {
+    pub kept: u32,
+    pub lost: u32,
+}
+
+pub fn tally(store: &[u8]) -> Result<Counts, Refusal>
+    ensures counts { λ r. ⌜ r ≡ unless (store-refusal 8 (now (store .entry))) (record { kept = kept-in (now (store .entry)); lost = lost-in (now (store .entry)) }) ⌝ }
+    ensures every_byte_counted { λ _. ⌜ Every-byte-counted (now (store .entry)) ⌝ }
+{
+    check_store(LEAST_STORE, store)?;
+    Ok(Counts {
+        kept: get32(store, KEPT_AT),
+        lost: get32(store, LOST_AT),
+    })
+}
+
+// The text that a store has kept, up to the store's end.
+pub fn text(store: &[u8]) -> Result<&[u8], Refusal>
+    ensures kept_text { λ r. ⌜ elim r [ Ok part ↦ Ok (now part) ≡ unless (store-refusal 8 (now (store .entry))) (text-in (now (store .entry))) | Err n ↦ Err n ≡ unless (store-refusal 8 (now (store .entry))) (text-in (now (store .entry))) ] ⌝ }
+    ensures grows_by_what_fits { λ _. ⌜ Text-grows (now (store .entry)) ⌝ }
+{
+    check_store(LEAST_STORE, store)?;
+    let kept = get32(store, KEPT_AT) as usize;
+    let within = kept.min(store.len() - TEXT_AT);
+    Ok(&store[TEXT_AT..TEXT_AT + within])
 }

@@ -90,6 +90,10 @@ overwrite-none at xs = same-lists _ _ (length-overwrite at [] xs) (λ i d h. byt
     away : (i : ℕ) → (i < at) ⊎ (at + length {A = ℕ} [] ≤ i)
     away i = elim (leb-tells at i) [ inl t ↦ inr (omega arith) | inr t ↦ inl (t .1) ]
 
+pub drop-apart : (n at : ℕ) (new xs : List ℕ) → at + length new ≤ n → drop n (overwrite at new xs) ≡ drop n xs
+drop-apart n at new xs h = same-lists _ _ (length-drop n (overwrite at new xs) ∙ ap (λ l. l - n) (length-overwrite at new xs) ∙ sym (length-drop n xs))
+    (λ i d _. getD-drop n (overwrite at new xs) i d ∙ byte-apart at new xs (n + i) d (inr (omega arith)) ∙ sym (getD-drop n xs i d))
+
 pub part-none : (at : ℕ) (xs : List ℕ) → part at 0 xs ≡ []
 part-none at xs = elim (leb-tells (at + 0) (length xs)) [ inl t ↦ part-within at 0 xs (t .1) | inr t ↦ part-outside at 0 xs (t .1) ]
 

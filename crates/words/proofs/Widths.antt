@@ -13,7 +13,7 @@ use Rattle.std.proofs.shelf.Lists.{drop-more}
 use Rattle.std.proofs.shelf.Ways.{tells}
 use Rattle.words.specs.Bytes.{part, overwrite}
 use Rattle.words.specs.Numbers.{le, value, get, put}
-use Rattle.words.proofs.Laid.{part-within, part-outside, part-of-same, part-apart, byte-apart, length-overwrite}
+use Rattle.words.proofs.Laid.{part-within, part-outside, part-of-same, part-apart, byte-apart, drop-apart, length-overwrite}
 
 pub length-le : (k n : ℕ) → length (le k n) ≡ k
 unfolding le
@@ -87,3 +87,7 @@ unfolding put
 byte-put k xs at n i d q =
     let l = length-le k n in
     byte-apart at (le k n) xs i d (elim q [ inl x ↦ inl x | inr x ↦ inr (omega arith) ])
+
+pub drop-put : (k n : ℕ) (xs : List ℕ) (at m : ℕ) → at + k ≤ n → drop n (put k xs at m) ≡ drop n xs
+unfolding put
+drop-put k n xs at m h = let l = length-le k m in drop-apart n at (le k m) xs (omega arith)
