@@ -25,12 +25,16 @@ use words::overwrite;
 use words::part;
 use words::zero;
 
+// What the device says it wrote: the status, and a read's data before it.
+const STATUS_WRITTEN: u32 = 1;
+const READ_WRITTEN: u32 = 513;
+
 // Where a sector lies in the store, if it is there. A sector is compared before it is multiplied, so no sector overflows.
 fn sector_at(sector: u64, store: &[u8]) -> Option<usize>
     ensures { λ r. ⌜ r ≡ cond (has-sector (now (store .entry)) sector) (Some (512 * sector)) None ⌝ }
 {
     if sector < (store.len() / SECTOR_SIZE) as u64 {
-        Some(512 * sector as usize)
+        Some(SECTOR_SIZE * sector as usize)
     } else {
         None
     }
@@ -82,5 +86,5 @@ pub(crate) fn serve_cell(cell: &mut [u8], store: &mut [u8]) -> u32
         _ => UNSUPPORTED,
     };
     overwrite(cell, STATUS_AT, &[status]);
-    if code == READ { 513 } else { 1 }
+    if code == READ { READ_WRITTEN } else { STATUS_WRITTEN }
 }

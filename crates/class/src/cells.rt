@@ -16,5 +16,5 @@ pub const STATUS_AT: usize = 528;
 pub fn cell_address(tag: u16) -> u64
     ensures by_the_rule { λ r. ⌜ r ≡ address tag ⌝ }
 {
-    544 * u64::from(tag)
+    CELL_SIZE as u64 * u64::from(tag)
 }

@@ -20,4 +20,7 @@ pub use checks::check_serve;
 pub use checks::check_store;
 pub use interface::Class;
 pub use requests::Reply;
+pub use requests::ReplyDebug;
+pub use requests::ReplyEq;
+pub use requests::ReplyPartialEq;
 pub use requests::Request;

@@ -6,5 +6,8 @@ mod stores;
 pub use interface::Console;
 pub use interface::ConsoleClass;
 pub use stores::Counts;
+pub use stores::CountsDebug;
+pub use stores::CountsEq;
+pub use stores::CountsPartialEq;
 pub use stores::tally;
 pub use stores::text;

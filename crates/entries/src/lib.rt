@@ -4,6 +4,9 @@ mod refusals;
 mod shapes;
 
 pub use refusals::Refusal;
+pub use refusals::RefusalDebug;
+pub use refusals::RefusalEq;
+pub use refusals::RefusalPartialEq;
 pub use shapes::Entry;
 pub use shapes::LAST_TAG;
 pub use shapes::Segment;

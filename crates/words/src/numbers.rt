@@ -31,14 +31,14 @@ pub fn get64(bytes: &[u8], at: usize) -> u64
     ])
 }
 
-pub fn put32(bytes: &mut [u8], at: usize, n: u32)
-    ensures little_endian { λ _. ⌜ now (bytes .exit) ≡ put 4 (now (bytes .entry)) at n ⌝ }
+pub fn put32(bytes: &mut [u8], at: usize, word: u32)
+    ensures little_endian { λ _. ⌜ now (bytes .exit) ≡ put 4 (now (bytes .entry)) at word ⌝ }
 {
-    overwrite(bytes, at, &n.to_le_bytes());
+    overwrite(bytes, at, &word.to_le_bytes());
 }
 
-pub fn put64(bytes: &mut [u8], at: usize, n: u64)
-    ensures little_endian { λ _. ⌜ now (bytes .exit) ≡ put 8 (now (bytes .entry)) at n ⌝ }
+pub fn put64(bytes: &mut [u8], at: usize, wide: u64)
+    ensures little_endian { λ _. ⌜ now (bytes .exit) ≡ put 8 (now (bytes .entry)) at wide ⌝ }
 {
-    overwrite(bytes, at, &n.to_le_bytes());
+    overwrite(bytes, at, &wide.to_le_bytes());
 }
