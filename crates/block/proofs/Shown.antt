@@ -12,7 +12,7 @@ use Rattle.std.proofs.shelf.Tests.{cond-both, ltb-true}
 use Rattle.std.proofs.shelf.Ways.{tells}
 use Rattle.words.specs.Bytes.{part, overwrite}
 use Rattle.words.specs.Numbers.{get}
-use Rattle.words.proofs.Laid.{length-overwrite, length-part, part-of-same, part-apart, byte-same}
+use Rattle.words.proofs.Laid.{overwrite-none, length-overwrite, length-part, part-of-same, part-apart, byte-same}
 use Rattle.words.proofs.Widths.{get-over}
 use Rattle.class.specs.Kinds.{Asked, Answer, Service, Sized}
 use Rattle.block.specs.Requests.{is-read, is-write, is-flush, refused}
@@ -20,11 +20,23 @@ use Rattle.block.specs.Layout.{lays, type-in}
 use Rattle.block.specs.Service.{has-sector, gives, plain-read, plain-write, plain, answers, status, shows}
 use Rattle.block.proofs.Header.{lays-length, type-laid}
 
+-- the answer in the cell as two writes, where there is data only for a read
+pub answers-is : (a : Answer) (cell : List ℕ) → (is-read (type-in cell) ≡ false → a .bytes ≡ []) → answers a cell ≡ overwrite 528 (a .status ∷ []) (overwrite 16 (a .bytes) cell)
+answers-is a cell none = ap (overwrite 528 (a .status ∷ [])) (by-read (is-read (type-in cell)) refl)
+  where
+    by-read : (b : Bool) → is-read (type-in cell) ≡ b → cond b (overwrite 16 (a .bytes) cell) cell ≡ overwrite 16 (a .bytes) cell
+    by-read true e = refl
+    by-read false e = sym (overwrite-none 16 cell) ∙ ap (λ (d : List ℕ). overwrite 16 d cell) (sym (none e))
+
+data-length : (b : Bool) (d cell : List ℕ) → length (cond b (overwrite 16 d cell) cell) ≡ length cell
+data-length true d cell = length-overwrite 16 d cell
+data-length false d cell = refl
+
 pub answers-length : (a : Answer) (cell : List ℕ) → length (answers a cell) ≡ length cell
-answers-length a cell = length-overwrite 528 (a .status ∷ []) _ ∙ length-overwrite 16 (a .bytes) cell
+answers-length a cell = length-overwrite 528 (a .status ∷ []) _ ∙ data-length (is-read (type-in cell)) (a .bytes) cell
 
 pub status-shown : (a : Answer) (cell : List ℕ) → length cell ≡ 544 → status (answers a cell) ≡ a .status
-status-shown a cell h = let l = length-overwrite 16 (a .bytes) cell in byte-same 528 (a .status) (overwrite 16 (a .bytes) cell) 0 (omega arith)
+status-shown a cell h = let l = data-length (is-read (type-in cell)) (a .bytes) cell in byte-same 528 (a .status) (cond (is-read (type-in cell)) (overwrite 16 (a .bytes) cell) cell) 0 (omega arith)
 
 -- a read answers 512 bytes, any other type none
 pub read-bytes : (store : List ℕ) (n : ℕ) → length (plain-read store n .answer .bytes) ≡ 512
@@ -48,8 +60,18 @@ module _ (r : Asked) (cell store : List ℕ) (fit : Sized r) (kept : refused r �
   abbrev after : List ℕ
   after = answers (plain store r .answer) (lays r cell)
 
+  type-laid-in : type-in (lays r cell) ≡ r .code
+  type-laid-in = type-laid r cell fit kept whole
+
+  after-is : after ≡ overwrite 528 (plain store r .answer .status ∷ []) (overwrite 16 bytes (lays r cell))
+  after-is = answers-is (plain store r .answer) (lays r cell) (λ e. other-bytes store r (ap is-read (sym type-laid-in) ∙ e))
+
   type-stays : type-in after ≡ r .code
-  type-stays = get-over 4 _ 528 0 (plain store r .answer .status ∷ []) (inl (omega arith)) ∙ get-over 4 (lays r cell) 16 0 bytes (inl (omega arith)) ∙ type-laid r cell fit kept whole
+  type-stays =
+      ap type-in after-is
+      ∙ get-over 4 _ 528 0 (plain store r .answer .status ∷ []) (inl (omega arith))
+      ∙ get-over 4 (lays r cell) 16 0 bytes (inl (omega arith))
+      ∙ type-laid-in
 
   by-read : (b : Bool) → is-read (r .code) ≡ b → cond b (part 16 512 after) [] ≡ bytes
   by-read false e = sym (other-bytes store r e)
@@ -57,7 +79,8 @@ module _ (r : Asked) (cell store : List ℕ) (fit : Sized r) (kept : refused r �
       let l = lays-length r cell in
       let s : plain store r ≡ plain-read store (r .place) = grind (arith, tells) in
       let n : length bytes ≡ 512 = ap (λ (x : Service). length (x .answer .bytes)) s ∙ read-bytes store (r .place) in
-      part-apart 16 512 528 (plain store r .answer .status ∷ []) (overwrite 16 bytes (lays r cell)) (inl (omega arith)) ∙ part-of-same 16 512 bytes (lays r cell) (omega arith) n
+      ap (part 16 512) after-is
+      ∙ part-apart 16 512 528 (plain store r .answer .status ∷ []) (overwrite 16 bytes (lays r cell)) (inl (omega arith)) ∙ part-of-same 16 512 bytes (lays r cell) (omega arith) n
 
   pub data-shown : shows after ≡ bytes
   data-shown = ap (λ n. cond (is-read n) (part 16 512 after) []) type-stays ∙ by-read (is-read (r .code)) refl

@@ -29,13 +29,16 @@ entry-for t code = cond (is-read code || is-write code) (with-data t (is-read co
 abbrev pub lay-header : Asked → List ℕ → List ℕ
 lay-header r cell = put 8 (put 4 (put 4 cell 0 (r .code)) 4 0) 8 (r .place)
 
--- what is laid as data: zeroes for a read, the payload for a write, nothing for any other type
-abbrev pub filling : Asked → List ℕ
-filling r = cond (is-read (r .code)) (replicate 512 0) (cond (is-write (r .code)) (r .payload) [])
+-- zeroes for a read, the payload for a write, nothing for any other type
+abbrev pub lay-data : Asked → List ℕ → List ℕ
+lay-data r cell =
+    cond (is-read (r .code)) (overwrite 16 (replicate 512 0) cell)
+    (cond (is-write (r .code)) (overwrite 16 (r .payload) cell)
+    cell)
 
 -- header, data, and status 255
 abbrev pub lays : Asked → List ℕ → List ℕ
-lays r cell = overwrite 528 (255 ∷ []) (overwrite 16 (filling r) (lay-header r cell))
+lays r cell = overwrite 528 (255 ∷ []) (lay-data r (lay-header r cell))
 
 abbrev pub type-in : List ℕ → ℕ
 type-in cell = get 4 cell 0

@@ -36,9 +36,9 @@ plain store r =
     (cond (is-flush (r .code)) (gives store 0 [] 1)
     (gives store 2 [] 1)))
 
--- a read's data, and the status
+-- the data of a read, and the status
 abbrev pub answers : Answer → List ℕ → List ℕ
-answers a cell = overwrite 528 (a .status ∷ []) (overwrite 16 (a .bytes) cell)
+answers a cell = overwrite 528 (a .status ∷ []) (cond (is-read (type-in cell)) (overwrite 16 (a .bytes) cell) cell)
 
 abbrev pub status : List ℕ → ℕ
 status cell = getD cell 528 0

@@ -9,11 +9,18 @@ use crate::codes::SECTOR_SIZE;
 use class::check_store;
 use entries::Refusal;
 
-// How many sectors a store has. A partial last one does not count.
+// A partial last sector does not count.
+pub(crate) fn sector_count(store: &[u8]) -> u64
+    ensures { λ r. ⌜ r ≡ length (now (store .entry)) / 512 ⌝ }
+{
+    (store.len() / SECTOR_SIZE) as u64
+}
+
+// How many sectors a store has.
 pub fn sectors(store: &[u8]) -> Result<u64, Refusal>
     ensures whole_sectors { λ r. ⌜ r ≡ unless (store-refusal 512 (now (store .entry))) (length (now (store .entry)) / 512) ⌝ }
     ensures keeps_what_is_written { λ _. ⌜ Disk (now (store .entry)) ⌝ }
 {
     check_store(SECTOR_SIZE, store)?;
-    Ok((store.len() / SECTOR_SIZE) as u64)
+    Ok(sector_count(store))
 }

@@ -60,11 +60,10 @@ pub impl Class for Block as BlockClass {
 
     fn data<'c>(cell: &'c [u8]) -> Result<&'c [u8], Refusal> {
         check_read(cell)?;
-        let length = if get32(cell, TYPE_AT) == READ {
-            DATA_SIZE
+        if get32(cell, TYPE_AT) == READ {
+            Ok(part(cell, DATA_AT, DATA_SIZE))
         } else {
-            0
-        };
-        Ok(part(cell, DATA_AT, length))
+            Ok(&cell[0..0])
+        }
     }
 }

@@ -14,6 +14,7 @@ use crate::codes::READ;
 use crate::codes::SECTOR_SIZE;
 use crate::codes::UNSUPPORTED;
 use crate::codes::WRITE;
+use crate::disks::sector_count;
 use crate::laying::SECTOR_AT;
 use crate::laying::TYPE_AT;
 use class::DATA_AT;
@@ -27,13 +28,14 @@ use words::zero;
 
 // What the device says it wrote: the status, and a read's data before it.
 const STATUS_WRITTEN: u32 = 1;
+
 const READ_WRITTEN: u32 = 513;
 
 // Where a sector lies in the store, if it is there. A sector is compared before it is multiplied, so no sector overflows.
 fn sector_at(sector: u64, store: &[u8]) -> Option<usize>
     ensures { λ r. ⌜ r ≡ cond (has-sector (now (store .entry)) sector) (Some (512 * sector)) None ⌝ }
 {
-    if sector < (store.len() / SECTOR_SIZE) as u64 {
+    if sector < sector_count(store) {
         Some(SECTOR_SIZE * sector as usize)
     } else {
         None
@@ -86,5 +88,9 @@ pub(crate) fn serve_cell(cell: &mut [u8], store: &mut [u8]) -> u32
         _ => UNSUPPORTED,
     };
     overwrite(cell, STATUS_AT, &[status]);
-    if code == READ { READ_WRITTEN } else { STATUS_WRITTEN }
+    if code == READ {
+        READ_WRITTEN
+    } else {
+        STATUS_WRITTEN
+    }
 }

@@ -31,10 +31,10 @@ take-most xs m = elim (cases-lt m (length xs)) [
 ]
 
 -- the code's cut of the text at the store's end
-pub cut-at-end : (store : List ℕ) (k m : ℕ) → m ≡ min k (length store - 8) → take (8 + m - 8) (drop 8 store) ≡ take k (drop 8 store)
-cut-at-end store k m h =
+pub cut-at-end : (store : List ℕ) (k : ℕ) → take (min k (length store - 8)) (drop 8 store) ≡ take k (drop 8 store)
+cut-at-end store k =
     let l = length-drop 8 store in
-    let e : 8 + m - 8 ≡ min (length (drop 8 store)) k = omega arith in
+    let e : min k (length store - 8) ≡ min (length (drop 8 store)) k = omega arith in
     ap (λ j. take j (drop 8 store)) e ∙ sym (take-most (drop 8 store) k)
 
 module _ (store line : List ℕ) (small : kept-in store < 2 ^ 32) (sound : is-store 8 store ≡ true) where

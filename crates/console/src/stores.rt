@@ -1,7 +1,7 @@
 // A console store: le32 bytes kept, le32 bytes lost, then the text.
-ghost use Prim.Native.Nat.{_^_, _≤_};
+ghost use Prim.Native.Nat.{min, _-_, _^_, _<_, _≤_};
 ghost use mathlib.Core.Path.{_≡_};
-ghost use lib.ListN.{length};
+ghost use lib.ListN.{length, take, drop};
 ghost use Rattle.std.specs.declared.result.Result.the-variants.{Ok, Err};
 ghost use Rattle.entries.specs.Refusals.{unless};
 ghost use Rattle.class.specs.Refusals.{store-refusal};
@@ -50,15 +50,34 @@ pub struct Counts {
     pub lost: u32,
 }
 
+impl Counts {
+    // The two counts, wherever they stand.
+    fn of(store: &[u8]) -> Counts
+        ensures both { λ r. ⌜ r ≡ record { kept = kept-in (now (store .entry)); lost = lost-in (now (store .entry)) } ⌝ }
+        ensures in_32_bits { λ _. ⌜ kept-in (now (store .entry)) < 2 ^ 32 ⌝ }
+    {
+        Counts {
+            kept: get32(store, KEPT_AT),
+            lost: get32(store, LOST_AT),
+        }
+    }
+}
+
 pub fn tally(store: &[u8]) -> Result<Counts, Refusal>
     ensures counts { λ r. ⌜ r ≡ unless (store-refusal 8 (now (store .entry))) (record { kept = kept-in (now (store .entry)); lost = lost-in (now (store .entry)) }) ⌝ }
     ensures every_byte_counted { λ _. ⌜ Every-byte-counted (now (store .entry)) ⌝ }
 {
     check_store(LEAST_STORE, store)?;
-    Ok(Counts {
-        kept: get32(store, KEPT_AT),
-        lost: get32(store, LOST_AT),
-    })
+    Ok(Counts::of(store))
+}
+
+// The text after the counts, as far as it is kept and as the store reaches.
+fn text_within(store: &[u8], kept: usize) -> &[u8]
+    requires { ⌜ 8 ≤ length (now store) ⌝ }
+    ensures { λ r. ⌜ now r ≡ take (min kept (length (now (store .entry)) - 8)) (drop 8 (now (store .entry))) ⌝ }
+{
+    let within = kept.min(store.len() - TEXT_AT);
+    &store[TEXT_AT..TEXT_AT + within]
 }
 
 // The text that a store has kept, up to the store's end.
@@ -67,7 +86,6 @@ pub fn text(store: &[u8]) -> Result<&[u8], Refusal>
     ensures grows_by_what_fits { λ _. ⌜ Text-grows (now (store .entry)) ⌝ }
 {
     check_store(LEAST_STORE, store)?;
-    let kept = get32(store, KEPT_AT) as usize;
-    let within = kept.min(store.len() - TEXT_AT);
-    Ok(&store[TEXT_AT..TEXT_AT + within])
+    let kept = get32(store, KEPT_AT);
+    Ok(text_within(store, kept as usize))
 }

@@ -10,8 +10,8 @@ use Rattle.std.proofs.shelf.Tests.{lt-ltb}
 use Rattle.std.proofs.shelf.Ways.{tells, decides-at}
 use Rattle.entries.specs.declared.shapes.Segment.{Segment}
 use Rattle.entries.specs.declared.shapes.Entry.{Entry}
-use Rattle.entries.specs.Sameness.{agree, same-segment, same, Same}
-use Rattle.entries.specs.Legality.{blank, place, used, unused, follows, legal-chain, legal, Legal}
+use Rattle.entries.specs.Sameness.{same-segment, same-places, same, Same}
+use Rattle.entries.specs.Legality.{blank, place, used, unused, follows, legal-tag, legal-chain, legal, Legal}
 
 three : (P : ℕ → Type 0) → P 0 → P 1 → P 2 → (i : ℕ) → i < 3 → P i
 three P a b c zero h = a
@@ -101,7 +101,7 @@ same-decides d e = (means, met)
     means h = record {
       same-tag = grind (arith, tells);
       same-count = grind (arith, tells);
-      same-places = three (λ i. place d i ≡ place e i)
+      each-place = three (λ i. place d i ≡ place e i)
           (segment-from (place d 0) (place e 0) (grind (arith, tells)))
           (segment-from (place d 1) (place e 1) (grind (arith, tells)))
           (segment-from (place d 2) (place e 2) (grind (arith, tells)));
@@ -110,9 +110,9 @@ same-decides d e = (means, met)
     met : Same d e → same d e ≡ true
     met s =
         let t = s .same-tag in let n = s .same-count in
-        let a = segment-same (place d 0) (place e 0) (s .same-places 0 (omega arith)) in
-        let b = segment-same (place d 1) (place e 1) (s .same-places 1 (omega arith)) in
-        let c = segment-same (place d 2) (place e 2) (s .same-places 2 (omega arith)) in
+        let a = segment-same (place d 0) (place e 0) (s .each-place 0 (omega arith)) in
+        let b = segment-same (place d 1) (place e 1) (s .each-place 1 (omega arith)) in
+        let c = segment-same (place d 2) (place e 2) (s .each-place 2 (omega arith)) in
         grind (arith, tells)
 
 pub same-self : (e : Entry) → same e e ≡ true

@@ -31,8 +31,11 @@ legal-chain e = let a = place e 0 in let b = place e 1 in let c = place e 2 in
     (cond (eqb (e .count) 3) (used a && (used b && (used c && (follows a b && follows b c))))
     false))
 
+abbrev pub legal-tag : Entry → Bool
+legal-tag e = leb (e .tag) 15
+
 abbrev pub legal : Entry → Bool
-legal e = leb (e .tag) 15 && legal-chain e
+legal e = legal-tag e && legal-chain e
 
 -- the same in the words of the subject
 pub record Legal (e : Entry) : Type 0 where

@@ -1,8 +1,8 @@
 // The one test of an entry, for all who ask it, and the comparison of two entries.
 ghost use mathlib.Core.Path.{_≡_};
 ghost use Rattle.std.specs.Orderings.{Decides};
-ghost use Rattle.entries.specs.Legality.{used, unused, follows, legal-chain, legal, Legal};
-ghost use Rattle.entries.specs.Sameness.{same-segment, same, Same};
+ghost use Rattle.entries.specs.Legality.{used, unused, follows, legal-tag, legal-chain, legal, Legal};
+ghost use Rattle.entries.specs.Sameness.{same-segment, same-places, same, Same};
 use crate::shapes::Entry;
 use crate::shapes::LAST_TAG;
 use crate::shapes::Segment;
@@ -35,6 +35,12 @@ impl Segment {
 }
 
 impl Entry {
+    fn has_legal_tag(&self) -> bool
+        ensures { λ r. ⌜ r ≡ legal-tag (now (self .entry)) ⌝ }
+    {
+        self.tag <= LAST_TAG
+    }
+
     fn has_legal_chain(&self) -> bool
         ensures { λ r. ⌜ r ≡ legal-chain (now (self .entry)) ⌝ }
     {
@@ -51,19 +57,21 @@ impl Entry {
         ensures by_the_rule { λ r. ⌜ r ≡ legal (now (self .entry)) ⌝ }
         ensures exactly_when_legal { λ r. ⌜ Decides r (Legal (now (self .entry))) ⌝ }
     {
-        self.tag <= LAST_TAG && self.has_legal_chain()
+        self.has_legal_tag() && self.has_legal_chain()
+    }
+
+    fn has_same_places(&self, other: &Entry) -> bool
+        ensures { λ r. ⌜ r ≡ same-places (now (self .entry)) (now (other .entry)) ⌝ }
+    {
+        let [a, b, c] = self.segments;
+        let [x, y, z] = other.segments;
+        a.is_same(&x) && b.is_same(&y) && c.is_same(&z)
     }
 
     pub fn is_same(&self, other: &Entry) -> bool
         ensures by_the_rule { λ r. ⌜ r ≡ same (now (self .entry)) (now (other .entry)) ⌝ }
         ensures exactly_when_equal { λ r. ⌜ Decides r (Same (now (self .entry)) (now (other .entry))) ⌝ }
     {
-        let [a, b, c] = self.segments;
-        let [x, y, z] = other.segments;
-        self.tag == other.tag
-            && self.count == other.count
-            && a.is_same(&x)
-            && b.is_same(&y)
-            && c.is_same(&z)
+        self.tag == other.tag && self.count == other.count && self.has_same_places(other)
     }
 }

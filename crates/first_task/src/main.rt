@@ -15,10 +15,11 @@ use console::ConsoleClass;
 use console::tally;
 use console::text;
 use entries::Refusal;
-use std::io;
 use entries::RefusalDebug;
+use std::io;
 
 const DISK_TAG: u16 = 0;
+
 const CONSOLE_TAG: u16 = 1;
 
 // What the program stops at: a stream that takes no more, or a store that it laid out wrongly.
@@ -41,13 +42,23 @@ impl From<Refusal> for Stop as StopFromRefusal {
 }
 
 // One request, from its laying to its answer, whatever its class; and a line that says what came of it.
-fn step<C: Class>(rt: &LibcRuntime, name: &str, tag: u16, request: Request<'_>, cell: &mut [u8], store: &mut [u8]) -> Result<(), Stop> {
+fn step<C: Class>(
+    rt: &LibcRuntime,
+    name: &str,
+    tag: u16,
+    request: Request<'_>,
+    cell: &mut [u8],
+    store: &mut [u8],
+) -> Result<(), Stop> {
     match carry::<C>(tag, request, cell, store) {
         Ok(reply) => {
             let status = reply.status;
             let written = reply.written;
             let length = C::data(cell)?.len();
-            println!(rt, "{name}: status {status}, written {written}, data {length} bytes")?;
+            println!(
+                rt,
+                "{name}: status {status}, written {written}, data {length} bytes"
+            )?;
         }
         Err(refusal) => {
             let number = refusal.number();
@@ -58,7 +69,11 @@ fn step<C: Class>(rt: &LibcRuntime, name: &str, tag: u16, request: Request<'_>, 
 }
 
 fn block_request(code: u32, place: u64, payload: &[u8]) -> Request<'_> {
-    Request { code, place, payload }
+    Request {
+        code,
+        place,
+        payload,
+    }
 }
 
 fn use_disk(rt: &LibcRuntime, disk: &mut [u8]) -> Result<(), Stop> {
@@ -66,23 +81,83 @@ fn use_disk(rt: &LibcRuntime, disk: &mut [u8]) -> Result<(), Stop> {
     let board = [0xb5; 512];
     let count = sectors(disk)?;
     println!(rt, "disk: {count} sectors")?;
-    step::<Block>(rt, "write sector 2", DISK_TAG, block_request(WRITE, 2, &board), &mut cell, disk)?;
-    step::<Block>(rt, "read sector 2", DISK_TAG, block_request(READ, 2, &[]), &mut cell, disk)?;
+    step::<Block>(
+        rt,
+        "write sector 2",
+        DISK_TAG,
+        block_request(WRITE, 2, &board),
+        &mut cell,
+        disk,
+    )?;
+    step::<Block>(
+        rt,
+        "read sector 2",
+        DISK_TAG,
+        block_request(READ, 2, &[]),
+        &mut cell,
+        disk,
+    )?;
     let same = Block::data(&cell)? == &board;
     println!(rt, "the same bytes: {same}")?;
-    step::<Block>(rt, "read sector 4", DISK_TAG, block_request(READ, 4, &[]), &mut cell, disk)?;
+    step::<Block>(
+        rt,
+        "read sector 4",
+        DISK_TAG,
+        block_request(READ, 4, &[]),
+        &mut cell,
+        disk,
+    )?;
     let zeroes = Block::data(&cell)? == &[0; 512];
     println!(rt, "only zeroes: {zeroes}")?;
-    step::<Block>(rt, "flush", DISK_TAG, block_request(FLUSH, 0, &[]), &mut cell, disk)?;
-    step::<Block>(rt, "type 9", DISK_TAG, block_request(9, 0, &[]), &mut cell, disk)?;
-    step::<Block>(rt, "write of 511 bytes", DISK_TAG, block_request(WRITE, 2, &board[0..511]), &mut cell, disk)
+    step::<Block>(
+        rt,
+        "flush",
+        DISK_TAG,
+        block_request(FLUSH, 0, &[]),
+        &mut cell,
+        disk,
+    )?;
+    step::<Block>(
+        rt,
+        "type 9",
+        DISK_TAG,
+        block_request(9, 0, &[]),
+        &mut cell,
+        disk,
+    )?;
+    step::<Block>(
+        rt,
+        "write of 511 bytes",
+        DISK_TAG,
+        block_request(WRITE, 2, &board[0..511]),
+        &mut cell,
+        disk,
+    )
 }
 
 fn report(rt: &LibcRuntime, log: &mut [u8]) -> Result<(), Stop> {
     let mut cell = [0xee; CELL_SIZE];
     for i in 1..=9u8 {
-        let line = [b'n', b'e', b't', b' ', b'0' + i, b' ', b'r', b'o', b'u', b't', b'e', b'd', b'\n'];
-        let request = Request { code: 0, place: 0, payload: &line };
+        let line = [
+            b'n',
+            b'e',
+            b't',
+            b' ',
+            b'0' + i,
+            b' ',
+            b'r',
+            b'o',
+            b'u',
+            b't',
+            b'e',
+            b'd',
+            b'\n',
+        ];
+        let request = Request {
+            code: 0,
+            place: 0,
+            payload: &line,
+        };
         step::<Console>(rt, "progress", CONSOLE_TAG, request, &mut cell, log)?;
         let counts = tally(log)?;
         let kept = counts.kept;

@@ -103,18 +103,10 @@ byte-same at b xs d h =
     ap (λ (ys : List ℕ). getD ys at d) (overwrite-within at (b ∷ []) xs (omega arith)) ∙ getD-at (take at xs) b (drop (at + 1) xs) d at a
 
 -- the code's part and write, where the test said that the part lies within
-pub part-read : (at k : ℕ) (xs : List ℕ) → true ≡ leb (at + k) (length xs) → take (at + k - at) (drop at xs) ≡ part at k xs
-part-read at k xs h =
-    let w : at + k ≤ length xs = grind (arith, tells) in
-    let e : at + k - at ≡ k = omega arith in
-    ap (λ n. take n (drop at xs)) e ∙ sym (part-within at k xs w)
+pub part-read : (at k : ℕ) (xs : List ℕ) → true ≡ leb (at + k) (length xs) → take k (drop at xs) ≡ part at k xs
+part-read at k xs h = let w : at + k ≤ length xs = grind (arith, tells) in sym (part-within at k xs w)
 
-pub part-written : (at k : ℕ) (now new xs : List ℕ) → true ≡ leb (at + k) (length xs) → length new ≡ k → now ≡ new
-    → putMid at (at + k - at) xs now ≡ overwrite at new xs
-part-written at k now new xs h l e =
-    let w : at + k ≤ length xs = grind (arith, tells) in
-    let o : at + length new ≤ length xs = omega arith in
-    let n : at + k - at ≡ length new = omega arith in
-    let d = drop-drop (length new) at xs in
-    let s = overwrite-within at new xs o in
-    cc
+pub part-written : (at : ℕ) (new xs : List ℕ) → true ≡ leb (at + length new) (length xs) → putMid at (length new) xs new ≡ overwrite at new xs
+part-written at new xs h =
+    let w : at + length new ≤ length xs = grind (arith, tells) in
+    ap (λ (ys : List ℕ). take at xs ++ (new ++ ys)) (drop-drop (length new) at xs) ∙ sym (overwrite-within at new xs w)

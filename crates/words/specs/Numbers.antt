@@ -1,7 +1,11 @@
 -- Numbers in a list of bytes, the least byte first. Assumes nothing.
 use mathlib.Core.List.{List, [], _∷_}
 use Prim.Native.Nat.{ℕ, zero, suc, _+_, _*_, _/_, _%_}
+use lib.ListN.{getD}
 use Rattle.words.specs.Bytes.{part, overwrite}
+
+abbrev pub byte : List ℕ → ℕ → ℕ
+byte xs at = getD xs at 0
 
 -- n as k bytes
 unfoldable pub le : ℕ → ℕ → List ℕ

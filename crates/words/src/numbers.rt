@@ -1,34 +1,39 @@
 // Little-endian numbers in a byte slice. One that does not lie wholly within is read as 0 and is not written.
+ghost use Prim.Native.Nat.{_+_, _*_, _≤_};
 ghost use mathlib.Core.Path.{_≡_};
-ghost use Rattle.words.specs.Numbers.{get, put};
+ghost use lib.ListN.{length};
+ghost use Rattle.words.specs.Numbers.{byte, get, put};
 use crate::parts::overwrite;
 use crate::parts::within;
+
+// The bytes of a number that is known to lie within, put together.
+fn four_bytes(bytes: &[u8], at: usize) -> u32
+    requires { ⌜ at + 4 ≤ length (now bytes) ⌝ }
+    ensures { λ r. ⌜ r ≡ byte (now (bytes .entry)) at + byte (now (bytes .entry)) (at + 1) * 256 + byte (now (bytes .entry)) (at + 2) * 65536 + byte (now (bytes .entry)) (at + 3) * 16777216 ⌝ }
+{
+    u32::from_le_bytes([bytes[at], bytes[at + 1], bytes[at + 2], bytes[at + 3]])
+}
 
 pub fn get32(bytes: &[u8], at: usize) -> u32
     ensures little_endian { λ r. ⌜ r ≡ get 4 (now (bytes .entry)) at ⌝ }
 {
-    if !within(bytes.len(), at, 4) {
-        return 0;
+    if within(bytes.len(), at, 4) {
+        four_bytes(bytes, at)
+    } else {
+        0
     }
-    u32::from_le_bytes([bytes[at], bytes[at + 1], bytes[at + 2], bytes[at + 3]])
 }
 
 pub fn get64(bytes: &[u8], at: usize) -> u64
     ensures little_endian { λ r. ⌜ r ≡ get 8 (now (bytes .entry)) at ⌝ }
 {
-    if !within(bytes.len(), at, 8) {
-        return 0;
+    if within(bytes.len(), at, 8) {
+        let low = four_bytes(bytes, at);
+        let high = four_bytes(bytes, at + 4);
+        u64::from(low) + u64::from(high) * 4_294_967_296
+    } else {
+        0
     }
-    u64::from_le_bytes([
-        bytes[at],
-        bytes[at + 1],
-        bytes[at + 2],
-        bytes[at + 3],
-        bytes[at + 4],
-        bytes[at + 5],
-        bytes[at + 6],
-        bytes[at + 7],
-    ])
 }
 
 pub fn put32(bytes: &mut [u8], at: usize, word: u32)

@@ -1,16 +1,19 @@
 use mathlib.Core.Path.{ap}
-use native.Mathlib.Nat.{add-zero}
+use native.Mathlib.Nat.{add-zero, add-assoc}
 use native.Mathlib.Omega.{arith}
 use lib.ListN.{getD}
 use Rattle.words.specs.Numbers.{value}
 use Rattle.words.proofs.Widths.{each, get-inside, get-outside}
 use Rattle.words.proofs.numbers.get64.Needs as need
 
-pub returns-then-not-within : need.returns-then-not-within
-returns-then-not-within c = record { little-endian = get-outside 8 (c .args .at) (c .args .bytes .now) (c .if-not-within .ensures tt) }
-
-pub returns : need.returns
+pub returns-then-within : need.returns-then-within
 unfolding value each
-returns c =
+returns-then-within c =
     let first = ap (λ i. getD (c .args .bytes .now) i 0) (add-zero (c .args .at)) in
-    record { little-endian = omega (arith, first, c .from-le-bytes .ensures, get-inside 8 (c .args .at) (c .args .bytes .now) (c .if-not-within .ensures tt)) }
+    let fifth = ap (λ i. getD (c .args .bytes .now) i 0) (add-assoc (c .args .at) 4 1) in
+    let sixth = ap (λ i. getD (c .args .bytes .now) i 0) (add-assoc (c .args .at) 4 2) in
+    let last = ap (λ i. getD (c .args .bytes .now) i 0) (add-assoc (c .args .at) 4 3) in
+    record { little-endian = omega (arith, first, fifth, sixth, last, c .four-bytes-low .ensures, c .four-bytes-high .ensures, get-inside 8 (c .args .at) (c .args .bytes .now) (c .if-within .ensures tt)) }
+
+pub returns-else-within : need.returns-else-within
+returns-else-within c = record { little-endian = get-outside 8 (c .args .at) (c .args .bytes .now) (c .if-within .ensures tt) }
