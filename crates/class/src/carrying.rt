@@ -27,7 +27,8 @@ pub fn carry<C: Class>(
     ensures refusal_changes_nothing { λ r. ⌜ (isOk r ≡ false → (now (cell .exit) ≡ now (cell .entry)) × (now (store .exit) ≡ now (store .entry))) ⌝ }
     ensures later_cell { λ _. ⌜ now (cell .exit) ≡ carried kind tag (asked (request .entry)) (now (cell .entry)) (now (store .entry)) .cell ⌝ }
 {
-    check_room(C::store_minimum(), cell, store)?;
+    let least = C::store_minimum();
+    check_room(least, cell, store)?;
     let entry = C::lay(tag, request, cell)?;
     let written = C::serve(&entry, cell, store)?;
     let status = C::status(cell)?;

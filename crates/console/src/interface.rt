@@ -16,6 +16,11 @@ use entries::Refusal;
 use words::overwrite;
 use words::part;
 
+// How every line is answered: nothing in its cell is the device's to write.
+const STATUS: u8 = 0;
+
+const WRITTEN: u32 = 0;
+
 #[derive(Clone, Copy)]
 pub struct Console;
 
@@ -46,13 +51,12 @@ pub impl Class for Console as ConsoleClass {
         if is_sendable(length as usize) && entry.is_same(&entry_for(entry.tag, length)) {
             append_line(part(cell, DATA_AT, length as usize), store);
         }
-        Ok(0)
+        Ok(WRITTEN)
     }
 
-    // Nothing in a console cell is the device's to write, so the status is a constant.
     fn status(cell: &[u8]) -> Result<u8, Refusal> {
         check_read(cell)?;
-        Ok(0)
+        Ok(STATUS)
     }
 
     fn data<'c>(cell: &'c [u8]) -> Result<&'c [u8], Refusal> {

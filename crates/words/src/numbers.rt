@@ -1,17 +1,26 @@
 // Little-endian numbers in a byte slice. One that does not lie wholly within is read as 0 and is not written.
-ghost use Prim.Native.Nat.{_+_, _*_, _≤_};
+ghost use Prim.Native.Nat.{_+_, _*_, _^_, _≤_};
 ghost use mathlib.Core.Path.{_≡_};
 ghost use lib.ListN.{length};
-ghost use Rattle.words.specs.Numbers.{byte, get, put};
+ghost use Rattle.words.specs.Numbers.{four, get, put};
 use crate::parts::overwrite;
 use crate::parts::within;
 
-// The bytes of a number that is known to lie within, put together.
+// Four bytes, and eight, that are known to lie within.
 fn four_bytes(bytes: &[u8], at: usize) -> u32
     requires { ⌜ at + 4 ≤ length (now bytes) ⌝ }
-    ensures { λ r. ⌜ r ≡ byte (now (bytes .entry)) at + byte (now (bytes .entry)) (at + 1) * 256 + byte (now (bytes .entry)) (at + 2) * 65536 + byte (now (bytes .entry)) (at + 3) * 16777216 ⌝ }
+    ensures { λ r. ⌜ r ≡ four (now (bytes .entry)) at ⌝ }
 {
     u32::from_le_bytes([bytes[at], bytes[at + 1], bytes[at + 2], bytes[at + 3]])
+}
+
+fn eight_bytes(bytes: &[u8], at: usize) -> u64
+    requires { ⌜ at + 8 ≤ length (now bytes) ⌝ }
+    ensures { λ r. ⌜ r ≡ four (now (bytes .entry)) at + four (now (bytes .entry)) (at + 4) * 2 ^ 32 ⌝ }
+{
+    let low = four_bytes(bytes, at);
+    let high = four_bytes(bytes, at + 4);
+    u64::from(low) + u64::from(high) * 4_294_967_296
 }
 
 pub fn get32(bytes: &[u8], at: usize) -> u32
@@ -28,9 +37,7 @@ pub fn get64(bytes: &[u8], at: usize) -> u64
     ensures little_endian { λ r. ⌜ r ≡ get 8 (now (bytes .entry)) at ⌝ }
 {
     if within(bytes.len(), at, 8) {
-        let low = four_bytes(bytes, at);
-        let high = four_bytes(bytes, at + 4);
-        u64::from(low) + u64::from(high) * 4_294_967_296
+        eight_bytes(bytes, at)
     } else {
         0
     }

@@ -17,8 +17,8 @@ returns g c =
     let fit : Sized (asked (c .args .request)) = search needs in
     let steps : Chain (g .C·Class .kind) (c .args .tag) (asked (c .args .request)) (c .args .cell .now) (c .args .store .now)
     (c .in-Continue-entry .entry) (c .lay .last .cell) (c .in-Continue-written .written) (c .serve .last .cell) (c .serve .last .store) (c .in-Continue-status .status) = record {
-      room = ap (λ least. room-refusal least (c .args .cell .now) (c .args .store .now)) (sym (c .store-minimum .ensures .as-stated))
-          ∙ accepted (room-refusal (c .store-minimum .result) (c .args .cell .now) (c .args .store .now)) (c .in-Continue-check-room .field-0) tt (c .in-Continue-check-room .ensures tt .smallest-that-fits) .0;
+      room = ap (λ least. room-refusal least (c .args .cell .now) (c .args .store .now)) (sym (c .store-minimum-least .ensures .as-stated))
+          ∙ accepted (room-refusal (c .store-minimum-least .result) (c .args .cell .now) (c .args .store .now)) (c .in-Continue-check-room .field-0) tt (c .in-Continue-check-room .ensures tt .smallest-that-fits) .0;
       lay-answer = c .in-Continue-entry .ensures tt .answer;
       lay-cell = c .in-Continue-entry .ensures tt .later-cell;
       serve-answer = c .in-Continue-written .ensures tt .answer;
