@@ -1,5 +1,10 @@
 // The first task: a board is written to a small disk and read back, and progress is sent to a small console, each request
 // carried through its class and each step printed.
+ghost use mathlib.Core.Path.{_≡_};
+ghost use Rattle.std.specs.Vec.{made};
+ghost use Rattle.class.specs.Kinds.{asked};
+ghost use Rattle.class.specs.Rules.{carried};
+ghost use Rattle.first_task.specs.Steps.{Shows-the-data, Found-again};
 use block::Block;
 use block::BlockClass;
 use block::FLUSH;
@@ -8,25 +13,28 @@ use block::WRITE;
 use block::sectors;
 use class::CELL_SIZE;
 use class::Class;
+use class::Reply;
 use class::Request;
 use class::carry;
-use console::Console;
 use console::ConsoleClass;
 use console::tally;
 use console::text;
 use entries::Refusal;
 use entries::RefusalDebug;
 use std::io;
+use std::str::Utf8Error;
+use std::str::from_utf8;
 
 const DISK_TAG: u16 = 0;
 
 const CONSOLE_TAG: u16 = 1;
 
-// What the program stops at: a stream that takes no more, or a store that it laid out wrongly.
+// What the program stops at: a stream that takes no more, a store that it laid out wrongly, or a log that is no text.
 #[derive(Debug, Drop)]
 enum Stop {
     Stream(io::Error),
     Refused(Refusal),
+    NoText(Utf8Error),
 }
 
 impl From<io::Error> for Stop as StopFromError {
@@ -41,16 +49,20 @@ impl From<Refusal> for Stop as StopFromRefusal {
     }
 }
 
-// One request, from its laying to its answer, whatever its class; and a line that says what came of it.
-fn step<C: Class>(
+impl From<Utf8Error> for Stop as StopFromUtf8 {
+    fn from(e: Utf8Error) -> Stop {
+        Stop::NoText(e)
+    }
+}
+
+// Prints how a request ended.
+fn tell<C: Class>(
     rt: &LibcRuntime,
     name: &str,
-    tag: u16,
-    request: Request<'_>,
-    cell: &mut [u8],
-    store: &mut [u8],
+    result: Result<Reply, Refusal>,
+    cell: &[u8],
 ) -> Result<(), Stop> {
-    match carry::<C>(tag, request, cell, store) {
+    match result {
         Ok(reply) => {
             let status = reply.status;
             let written = reply.written;
@@ -68,7 +80,23 @@ fn step<C: Class>(
     Ok(())
 }
 
-fn block_request(code: u32, place: u64, payload: &[u8]) -> Request<'_> {
+// One request, from its laying to its answer, whatever its class; and a line that says what came of it.
+fn step<C: Class>(
+    rt: &LibcRuntime,
+    name: &str,
+    tag: u16,
+    request: Request<'_>,
+    cell: &mut [u8],
+    store: &mut [u8],
+) -> Result<(), Stop>
+    ensures plain_store { λ _. ⌜ now (store .exit) ≡ carried kind tag (asked (request .entry)) (now (cell .entry)) (now (store .entry)) .store ⌝ }
+    ensures plain_data { λ _. ⌜ Shows-the-data kind tag (asked (request .entry)) (now (cell .entry)) (now (store .entry)) (now (cell .exit)) ⌝ }
+{
+    let result = carry::<C>(tag, request, cell, store);
+    tell::<C>(rt, name, result, cell)
+}
+
+fn on_disk(code: u32, place: u64, payload: &[u8]) -> Request<'_> {
     Request {
         code,
         place,
@@ -76,65 +104,68 @@ fn block_request(code: u32, place: u64, payload: &[u8]) -> Request<'_> {
     }
 }
 
+// Writes a sector and reads it back; whether the same bytes are found there.
+fn write_and_read(
+    rt: &LibcRuntime,
+    sector: u64,
+    board: &[u8],
+    cell: &mut [u8],
+    disk: &mut [u8],
+) -> Result<bool, Stop>
+    ensures found_again { λ r. ⌜ made r (λ same. Found-again (now (cell .entry)) (now (disk .entry)) sector (now (board .entry)) same) ⌝ }
+{
+    let write = Request {
+        code: WRITE,
+        place: sector,
+        payload: board,
+    };
+    let read = Request {
+        code: READ,
+        place: sector,
+        payload: &[],
+    };
+    step::<BlockClass>(rt, "write the board", DISK_TAG, write, cell, disk)?;
+    step::<BlockClass>(rt, "read it back", DISK_TAG, read, cell, disk)?;
+    Ok(Block::data(cell)? == board)
+}
+
 fn use_disk(rt: &LibcRuntime, disk: &mut [u8]) -> Result<(), Stop> {
     let mut cell = [0xee; CELL_SIZE];
     let board = [0xb5; 512];
     let count = sectors(disk)?;
     println!(rt, "disk: {count} sectors")?;
-    step::<Block>(
-        rt,
-        "write sector 2",
-        DISK_TAG,
-        block_request(WRITE, 2, &board),
-        &mut cell,
-        disk,
-    )?;
-    step::<Block>(
-        rt,
-        "read sector 2",
-        DISK_TAG,
-        block_request(READ, 2, &[]),
-        &mut cell,
-        disk,
-    )?;
-    let same = Block::data(&cell)? == &board;
+    let same = write_and_read(rt, 2, &board, &mut cell, disk)?;
     println!(rt, "the same bytes: {same}")?;
-    step::<Block>(
+    step::<BlockClass>(
         rt,
         "read sector 4",
         DISK_TAG,
-        block_request(READ, 4, &[]),
+        on_disk(READ, 4, &[]),
         &mut cell,
         disk,
     )?;
     let zeroes = Block::data(&cell)? == &[0; 512];
     println!(rt, "only zeroes: {zeroes}")?;
-    step::<Block>(
+    step::<BlockClass>(
         rt,
         "flush",
         DISK_TAG,
-        block_request(FLUSH, 0, &[]),
+        on_disk(FLUSH, 0, &[]),
         &mut cell,
         disk,
     )?;
-    step::<Block>(
+    step::<BlockClass>(rt, "type 9", DISK_TAG, on_disk(9, 0, &[]), &mut cell, disk)?;
+    step::<BlockClass>(
         rt,
-        "type 9",
+        "write 511 bytes",
         DISK_TAG,
-        block_request(9, 0, &[]),
-        &mut cell,
-        disk,
-    )?;
-    step::<Block>(
-        rt,
-        "write of 511 bytes",
-        DISK_TAG,
-        block_request(WRITE, 2, &board[0..511]),
+        on_disk(WRITE, 2, &board[0..511]),
         &mut cell,
         disk,
     )
 }
 
+// Sends progress lines until one no longer fits.
 fn report(rt: &LibcRuntime, log: &mut [u8]) -> Result<(), Stop> {
     let mut cell = [0xee; CELL_SIZE];
     for i in 1..=9u8 {
@@ -158,7 +189,7 @@ fn report(rt: &LibcRuntime, log: &mut [u8]) -> Result<(), Stop> {
             place: 0,
             payload: &line,
         };
-        step::<Console>(rt, "progress", CONSOLE_TAG, request, &mut cell, log)?;
+        step::<ConsoleClass>(rt, "progress", CONSOLE_TAG, request, &mut cell, log)?;
         let counts = tally(log)?;
         let kept = counts.kept;
         let lost = counts.lost;
@@ -167,8 +198,8 @@ fn report(rt: &LibcRuntime, log: &mut [u8]) -> Result<(), Stop> {
             break;
         }
     }
-    let length = text(log)?.len();
-    println!(rt, "console: {length} bytes of text")?;
+    let shown = from_utf8(text(log)?)?;
+    println!(rt, "the console's text:\n{shown}")?;
     Ok(())
 }
 

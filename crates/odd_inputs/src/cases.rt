@@ -86,7 +86,7 @@ fn lend<C: Class>(
 }
 
 // Runs a row, and gives the two words that the store ends with too.
-pub fn run<C: Class>(case: Case) -> Option<(Outcome, (u32, u32))> {
+pub(crate) fn run<C: Class>(case: Case) -> Option<(Outcome, (u32, u32))> {
     let mut cell = [IN_CELL; LARGEST_CELL];
     let mut store = [IN_STORE; LARGEST_STORE];
     put32(&mut store, 0, case.words.0);
