@@ -5,6 +5,9 @@ use lib.Dec.{eqb}
 use lib.ListN.{length}
 use Rattle.class.specs.Kinds.{Asked}
 
+abbrev pub sector-size : ℕ
+sector-size = 512
+
 abbrev pub is-read : ℕ → Bool
 is-read code = eqb code 0
 
@@ -17,6 +20,6 @@ is-flush code = eqb code 4
 -- a write without exactly 512 bytes of payload, another code with payload, a flush with a place other than 0
 abbrev pub refused : Asked → Bool
 refused r =
-    cond (is-write (r .code)) (not (eqb (length (r .payload)) 512))
+    cond (is-write (r .code)) (not (eqb (length (r .payload)) sector-size))
     (cond (is-flush (r .code)) (not (eqb (length (r .payload)) 0) || not (eqb (r .place) 0))
     (not (eqb (length (r .payload)) 0)))

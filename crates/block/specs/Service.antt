@@ -5,13 +5,14 @@ use Prim.Native.Nat.{ℕ, _*_, _/_}
 use lib.Dec.{ltb}
 use lib.ListN.{length, getD, replicate}
 use Rattle.words.specs.Bytes.{part, overwrite}
+use Rattle.class.specs.Cells.{data-at, data-size, status-at}
 use Rattle.class.specs.Kinds.{Asked, Answer, Service}
-use Rattle.block.specs.Requests.{is-read, is-write, is-flush}
+use Rattle.block.specs.Requests.{sector-size, is-read, is-write, is-flush}
 use Rattle.block.specs.Layout.{type-in}
 
 -- whole sectors count, a partial last one does not
 abbrev pub has-sector : List ℕ → ℕ → Bool
-has-sector store n = ltb n (length store / 512)
+has-sector store n = ltb n (length store / sector-size)
 
 abbrev pub gives : List ℕ → ℕ → List ℕ → ℕ → Service
 gives store status bytes written = record { store = store; answer = record { status = status; bytes = bytes; written = written } }
@@ -19,13 +20,13 @@ gives store status bytes written = record { store = store; answer = record { sta
 -- a read of a sector that is not there answers status 1 and zeroes
 abbrev pub plain-read : List ℕ → ℕ → Service
 plain-read store n = cond (has-sector store n)
-    (gives store 0 (part (512 * n) 512 store) 513)
-    (gives store 1 (replicate 512 0) 513)
+    (gives store 0 (part (sector-size * n) sector-size store) 513)
+    (gives store 1 (replicate sector-size 0) 513)
 
 -- a write to a sector that is not there answers status 1
 abbrev pub plain-write : List ℕ → ℕ → List ℕ → Service
 plain-write store n bytes = cond (has-sector store n)
-    (gives (overwrite (512 * n) bytes store) 0 [] 1)
+    (gives (overwrite (sector-size * n) bytes store) 0 [] 1)
     (gives store 1 [] 1)
 
 -- a type that is none of the three answers status 2
@@ -38,11 +39,11 @@ plain store r =
 
 -- the data of a read, and the status
 abbrev pub answers : Answer → List ℕ → List ℕ
-answers a cell = overwrite 528 (a .status ∷ []) (cond (is-read (type-in cell)) (overwrite 16 (a .bytes) cell) cell)
+answers a cell = overwrite status-at (a .status ∷ []) (cond (is-read (type-in cell)) (overwrite data-at (a .bytes) cell) cell)
 
 abbrev pub status : List ℕ → ℕ
-status cell = getD cell 528 0
+status cell = getD cell status-at 0
 
 -- 512 bytes for a read, none otherwise
 abbrev pub shows : List ℕ → List ℕ
-shows cell = cond (is-read (type-in cell)) (part 16 512 cell) []
+shows cell = cond (is-read (type-in cell)) (part data-at data-size cell) []

@@ -5,6 +5,8 @@ ghost use Prim.Native.Nat.{_*_};
 ghost use lib.ListN.{length};
 ghost use Rattle.std.specs.declared.option.Option.the-variants.{Some, None};
 ghost use Rattle.words.specs.Bytes.{part, overwrite};
+ghost use Rattle.class.specs.Cells.{data-at, data-size};
+ghost use Rattle.block.specs.Requests.{sector-size};
 ghost use Rattle.block.specs.Layout.{asked-in};
 ghost use Rattle.block.specs.Service.{has-sector, plain-read, plain-write, plain, answers};
 use crate::codes::FLUSH;
@@ -33,7 +35,7 @@ const READ_WRITTEN: u32 = 513;
 
 // Where a sector lies in the store, if it is there. A sector is compared before it is multiplied, so no sector overflows.
 fn sector_at(sector: u64, store: &[u8]) -> Option<usize>
-    ensures { λ r. ⌜ r ≡ cond (has-sector (now (store .entry)) sector) (Some (512 * sector)) None ⌝ }
+    ensures { λ r. ⌜ r ≡ cond (has-sector (now (store .entry)) sector) (Some (sector-size * sector)) None ⌝ }
 {
     if sector < sector_count(store) {
         Some(SECTOR_SIZE * sector as usize)
@@ -45,7 +47,7 @@ fn sector_at(sector: u64, store: &[u8]) -> Option<usize>
 // Copies a sector into the cell's data, or zeroes the data where there is no such sector. Gives the status.
 fn read_sector(sector: u64, cell: &mut [u8], store: &[u8]) -> u8
     ensures status { λ r. ⌜ r ≡ plain-read (now (store .entry)) sector .answer .status ⌝ }
-    ensures cell { λ _. ⌜ now (cell .exit) ≡ overwrite 16 (plain-read (now (store .entry)) sector .answer .bytes) (now (cell .entry)) ⌝ }
+    ensures cell { λ _. ⌜ now (cell .exit) ≡ overwrite data-at (plain-read (now (store .entry)) sector .answer .bytes) (now (cell .entry)) ⌝ }
 {
     match sector_at(sector, store) {
         Some(at) => {
@@ -61,8 +63,8 @@ fn read_sector(sector: u64, cell: &mut [u8], store: &[u8]) -> u8
 
 // Copies the cell's data into a sector, if there is such a sector. Gives the status.
 fn write_sector(sector: u64, cell: &[u8], store: &mut [u8]) -> u8
-    ensures status { λ r. ⌜ r ≡ plain-write (now (store .entry)) sector (part 16 512 (now (cell .entry))) .answer .status ⌝ }
-    ensures store { λ _. ⌜ now (store .exit) ≡ plain-write (now (store .entry)) sector (part 16 512 (now (cell .entry))) .store ⌝ }
+    ensures status { λ r. ⌜ r ≡ plain-write (now (store .entry)) sector (part data-at data-size (now (cell .entry))) .answer .status ⌝ }
+    ensures store { λ _. ⌜ now (store .exit) ≡ plain-write (now (store .entry)) sector (part data-at data-size (now (cell .entry))) .store ⌝ }
 {
     match sector_at(sector, store) {
         Some(at) => {

@@ -6,7 +6,7 @@ use lib.Dec.{eqb}
 use lib.ListN.{length}
 use Rattle.entries.specs.declared.shapes.Segment.{Segment}
 
--- the bytes of a cell, and what its three parts start at
+-- the bytes of a cell; where its three parts start; and how long they are, the status being one byte
 abbrev pub cell-size : ℕ
 cell-size = 544
 
@@ -19,9 +19,15 @@ data-at = 16
 abbrev pub status-at : ℕ
 status-at = 528
 
+abbrev pub header-size : ℕ
+header-size = 16
+
+abbrev pub data-size : ℕ
+data-size = 512
+
 -- the address of tag t's cell: where it starts among all cells
 abbrev pub address : ℕ → ℕ
-address t = 544 * t
+address t = cell-size * t
 
 -- n bytes of tag t's cell from at on, as a segment
 abbrev pub segment : ℕ → ℕ → ℕ → Bool → Segment

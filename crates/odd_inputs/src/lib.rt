@@ -5,3 +5,5 @@ mod block_rows;
 mod cases;
 #[cfg(test)]
 mod console_rows;
+#[cfg(test)]
+mod foreign_rows;
