@@ -2,26 +2,23 @@
 use mathlib.Core.Path.{_≡_, refl, sym, ap, _∙_}
 use mathlib.Core.Bool.{Bool, true, false, cond, not, _||_}
 use mathlib.Core.List.{List, [], _∷_}
-use mathlib.Core.Logic.{_⊎_, inl, inr}
-use Prim.Native.Nat.{ℕ, zero, suc, _+_, _*_, _/_, _%_, _^_, _<_, _≤_}
+use mathlib.Core.Logic.{inl}
+use Prim.Native.Nat.{ℕ, _+_, _≤_}
 use native.Mathlib.Omega.{arith}
 use native.Mathlib.Nat.{mod-eq-of-lt}
-use lib.Dec.{eqb}
 use lib.ListN.{length, replicate}
 use Rattle.std.proofs.shelf.Lists.{length-replicate, nil-from-length}
 use Rattle.std.proofs.shelf.Ways.{tells}
-use Rattle.std.specs.declared.option.Option.{Option}
 use Rattle.std.specs.declared.option.Option.the-variants.{Some, None}
 use Rattle.words.specs.Bytes.{part, overwrite}
 use Rattle.words.specs.Numbers.{get, put}
 use Rattle.words.proofs.Laid.{overwrite-none, length-overwrite, part-of-same, part-apart}
 use Rattle.words.proofs.Widths.{length-put, reads-back, get-apart, get-over}
-use Rattle.entries.specs.declared.shapes.Entry.{Entry}
 use Rattle.entries.specs.Sameness.{same}
 use Rattle.entries.proofs.Judged.{same-self}
 use Rattle.class.specs.Kinds.{Asked, Sized}
 use Rattle.class.proofs.Values.{same-asked}
-use Rattle.block.specs.Requests.{is-read, is-write, is-flush, refused}
+use Rattle.block.specs.Requests.{is-read, is-write, refused}
 use Rattle.block.specs.Layout.{entry-for, lay-header, lay-data, lays, type-in, asked-in, reads}
 use Rattle.block.proofs.Shapes.{own-tag}
 

@@ -11,10 +11,9 @@ use Rattle.std.proofs.shelf.Tests.{ltb-true, cases-order}
 use Rattle.std.proofs.shelf.Ways.{tells}
 use Rattle.words.specs.Bytes.{part, overwrite}
 use Rattle.words.proofs.Laid.{length-overwrite, part-of-same, part-apart}
-use Rattle.class.specs.Kinds.{Asked, Answer, Service}
-use Rattle.block.specs.Requests.{is-read, is-write, is-flush}
-use Rattle.block.specs.Service.{has-sector, gives, plain-read, plain-write, plain}
-use Rattle.block.specs.Disk.{read, write, written, Disk}
+use Rattle.class.specs.Kinds.{Answer}
+use Rattle.block.specs.Service.{has-sector, gives, plain}
+use Rattle.block.specs.Disk.{read, written, Disk}
 
 -- what a read of sector n answers, by whether it is there and by its bytes
 abbrev told : Bool → List ℕ → Answer

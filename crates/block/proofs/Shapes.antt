@@ -1,15 +1,12 @@
 -- Facts on the two shapes of a block entry.
-use mathlib.Core.Path.{_≡_, refl, sym, ap, _∙_}
-use mathlib.Core.Bool.{Bool, true, false, cond, not, _||_}
-use mathlib.Core.List.{List, [], _∷_}
-use mathlib.Core.Logic.{_⊎_, inl, inr}
-use Prim.Native.Nat.{ℕ, zero, suc, _+_, _*_, _/_, _%_, _^_, _<_, _≤_}
+use mathlib.Core.Path.{_≡_, refl}
+use mathlib.Core.Bool.{true, false, _||_}
+use Prim.Native.Nat.{ℕ, _<_, _≤_}
 use native.Mathlib.Omega.{arith}
-use lib.Dec.{eqb}
 use Rattle.std.proofs.shelf.Tests.{both-ways, or-left, cond-both}
 use Rattle.std.proofs.shelf.Ways.{tells}
 use Rattle.entries.specs.declared.shapes.Entry.{Entry}
-use Rattle.entries.specs.Legality.{place, legal}
+use Rattle.entries.specs.Legality.{legal}
 use Rattle.class.specs.Laws.{Named, Writable}
 use Rattle.block.specs.Requests.{is-read, is-write}
 use Rattle.block.specs.Layout.{with-data, without-data, entry-for}

@@ -1,23 +1,21 @@
 -- What the plain service answers is what the cell shows.
 use mathlib.Core.Path.{_≡_, refl, sym, ap, _∙_}
-use mathlib.Core.Bool.{Bool, true, false, cond, not, _||_}
+use mathlib.Core.Bool.{Bool, true, false, cond}
 use mathlib.Core.List.{List, [], _∷_}
-use mathlib.Core.Logic.{_⊎_, inl, inr}
-use Prim.Native.Nat.{ℕ, zero, suc, _+_, _*_, _/_, _%_, _^_, _<_, _≤_}
+use mathlib.Core.Logic.{inl}
+use Prim.Native.Nat.{ℕ, _*_, _/_, _≤_}
 use native.Mathlib.Omega.{arith}
-use lib.Dec.{eqb, ltb}
-use lib.ListN.{length, getD, replicate}
+use lib.ListN.{length, replicate}
 use Rattle.std.proofs.shelf.Lists.{length-replicate}
 use Rattle.std.proofs.shelf.Tests.{cond-both, ltb-true}
 use Rattle.std.proofs.shelf.Ways.{tells}
 use Rattle.words.specs.Bytes.{part, overwrite}
-use Rattle.words.specs.Numbers.{get}
 use Rattle.words.proofs.Laid.{overwrite-none, length-overwrite, length-part, part-of-same, part-apart, byte-same}
 use Rattle.words.proofs.Widths.{get-over}
 use Rattle.class.specs.Kinds.{Asked, Answer, Service, Sized}
-use Rattle.block.specs.Requests.{is-read, is-write, is-flush, refused}
+use Rattle.block.specs.Requests.{is-read, refused}
 use Rattle.block.specs.Layout.{lays, type-in}
-use Rattle.block.specs.Service.{has-sector, gives, plain-read, plain-write, plain, answers, status, shows}
+use Rattle.block.specs.Service.{has-sector, gives, plain-read, plain, answers, status, shows}
 use Rattle.block.proofs.Header.{lays-length, type-laid}
 
 -- the answer in the cell as two writes, where there is data only for a read

@@ -4,7 +4,7 @@ use mathlib.Core.Bool.{true, false}
 use mathlib.Core.List.{List, []}
 use Prim.Native.Nat.{ℕ}
 use lib.ListN.{length}
-use Rattle.class.specs.Kinds.{Asked, Answer}
+use Rattle.class.specs.Kinds.{Asked}
 use Rattle.block.specs.Requests.{sector-size, is-write}
 use Rattle.block.specs.Service.{has-sector, plain}
 

@@ -1,18 +1,17 @@
 -- A request that is laid and then served is the plain service's, whatever the class.
 use mathlib.Core.Path.{_≡_, refl, sym, ap, subst, _∙_}
-use mathlib.Core.Bool.{Bool, true, false, cond, not}
+use mathlib.Core.Bool.{Bool, true, false, not}
 use mathlib.Core.List.{List}
-use Prim.Native.Nat.{ℕ, _+_, _<_, _≤_}
+use Prim.Native.Nat.{ℕ}
 use native.Mathlib.Omega.{arith}
-use lib.Dec.{ltb, eqb}
 use lib.ListN.{length, getD}
 use Rattle.std.specs.declared.option.Option.{Option}
 use Rattle.std.specs.declared.option.Option.the-variants.{Some, None}
 use Rattle.std.specs.declared.result.Result.{Result}
-use Rattle.std.specs.declared.result.Result.the-variants.{Ok, Err}
+use Rattle.std.specs.declared.result.Result.the-variants.{Ok}
 use Rattle.std.proofs.shelf.Tests.{not-false, eqb-true, cond-false}
 use Rattle.entries.specs.declared.refusals.Refusal.{Refusal}
-use Rattle.entries.specs.declared.refusals.Refusal.the-variants.{CellSize, StoreSize, BadRequest, BadEntry}
+use Rattle.entries.specs.declared.refusals.Refusal.the-variants.{CellSize, StoreSize, BadRequest}
 use Rattle.entries.specs.declared.shapes.Entry.{Entry}
 use Rattle.entries.specs.Refusals.{refuse, unless, kept}
 use Rattle.class.specs.declared.requests.Reply.{Reply}
@@ -134,4 +133,4 @@ module _ (kind : Kind) (law : Lawful kind) (t : ℕ) (r : Asked) (cell store : L
       ap (λ (x : List ℕ). getD x i 0) served-cell
       ∙ law .serves-only-writable e laid-in store i (λ v. h (subst (λ (d : Entry). Named d i) (lay-accepted .1) (v .0, v .1, v .3)))
       ∙ ap (λ (x : List ℕ). getD x i 0) was-laid
-      ∙ law .lays-only-named t r cell i (clear .not-refused) h
+      ∙ law .lays-only-named t r cell (clear .not-refused) i h

@@ -8,7 +8,7 @@ use Rattle.std.specs.declared.option.Option.the-variants.{Some}
 use Rattle.entries.specs.declared.shapes.Entry.{Entry}
 use Rattle.entries.specs.Legality.{place, legal}
 use Rattle.class.specs.Cells.{address, cell-size}
-use Rattle.class.specs.Kinds.{Asked, Sized, Answer, Service, Kind}
+use Rattle.class.specs.Kinds.{Asked, Sized, Kind}
 use Rattle.class.specs.Rules.{effect}
 
 -- byte i of the entry's cell lies in its segment k
@@ -20,6 +20,10 @@ Named e i = (k : ℕ) × (k < e .count) × In-segment e k i
 
 abbrev pub Writable : Entry → ℕ → Type 0
 Writable e i = (k : ℕ) × (k < e .count) × (place e k .writable ≡ true) × In-segment e k i
+
+-- every byte of a cell for which P does not hold is as it was
+abbrev pub Stays-outside : (ℕ → Type 0) → List ℕ → List ℕ → Type 0
+Stays-outside P before after = (i : ℕ) → (P i → ⊥) → getD after i 0 ≡ getD before i 0
 
 pub record Lawful (kind : Kind) : Type 0 where
   -- laying gives a legal entry of the tag, within the longest chain
@@ -38,5 +42,5 @@ pub record Lawful (kind : Kind) : Type 0 where
   pub serves-length : (e : Entry) (cell store : List ℕ) → length (effect kind e cell store .cell) ≡ length cell
   pub store-length : (e : Entry) (cell store : List ℕ) → length (effect kind e cell store .store) ≡ length store
   -- laying writes within the entry's segments, and serving within the writable ones
-  pub lays-only-named : (t : ℕ) (r : Asked) (cell : List ℕ) (i : ℕ) → kind .refuses r ≡ false → (Named (kind .entry t r) i → ⊥) → getD (kind .lays r cell) i 0 ≡ getD cell i 0
-  pub serves-only-writable : (e : Entry) (cell store : List ℕ) (i : ℕ) → (Writable e i → ⊥) → getD (effect kind e cell store .cell) i 0 ≡ getD cell i 0
+  pub lays-only-named : (t : ℕ) (r : Asked) (cell : List ℕ) → kind .refuses r ≡ false → Stays-outside (Named (kind .entry t r)) cell (kind .lays r cell)
+  pub serves-only-writable : (e : Entry) (cell store : List ℕ) → Stays-outside (Writable e) cell (effect kind e cell store .cell)

@@ -1,11 +1,9 @@
 // One request, from the driver's hand to its answer.
-ghost use Prim.Native.Nat.{ℕ};
 ghost use mathlib.Core.Path.{_≡_};
 ghost use mathlib.Core.Bool.{true, false};
-ghost use lib.ListN.{getD};
 ghost use Rattle.std.specs.Results.{isOk};
 ghost use Rattle.class.specs.Kinds.{asked};
-ghost use Rattle.class.specs.Laws.{Named};
+ghost use Rattle.class.specs.Laws.{Named, Stays-outside};
 ghost use Rattle.class.specs.Rules.{carried};
 use crate::checks::check_room;
 use crate::interface::Class;
@@ -23,7 +21,7 @@ pub fn carry<C: Class>(
     ensures plain_reply { λ r. ⌜ r ≡ carried kind tag (asked (request .entry)) (now (cell .entry)) (now (store .entry)) .answer ⌝ }
     ensures plain_data { λ r. ⌜ (isOk r ≡ true → kind .shows (now (cell .exit)) ≡ kind .plain (now (store .entry)) (asked (request .entry)) .answer .bytes) ⌝ }
     ensures plain_store { λ _. ⌜ now (store .exit) ≡ carried kind tag (asked (request .entry)) (now (cell .entry)) (now (store .entry)) .store ⌝ }
-    ensures nothing_else_touched { λ _. ⌜ ((i : ℕ) → (Named (kind .entry tag (asked (request .entry))) i → ⊥) → getD (now (cell .exit)) i 0 ≡ getD (now (cell .entry)) i 0) ⌝ }
+    ensures nothing_else_touched { λ _. ⌜ Stays-outside (Named (kind .entry tag (asked (request .entry)))) (now (cell .entry)) (now (cell .exit)) ⌝ }
     ensures refusal_changes_nothing { λ r. ⌜ (isOk r ≡ false → (now (cell .exit) ≡ now (cell .entry)) × (now (store .exit) ≡ now (store .entry))) ⌝ }
     ensures later_cell { λ _. ⌜ now (cell .exit) ≡ carried kind tag (asked (request .entry)) (now (cell .entry)) (now (store .entry)) .cell ⌝ }
 {

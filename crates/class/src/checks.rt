@@ -3,7 +3,6 @@ ghost use mathlib.Core.Path.{_≡_};
 ghost use Rattle.entries.specs.Refusals.{unless};
 ghost use Rattle.class.specs.Refusals.{read-refusal, lay-refusal, store-refusal, room-refusal, serve-refusal};
 use crate::cells::CELL_SIZE;
-use entries::Entry;
 use entries::LAST_TAG;
 use entries::Refusal;
 

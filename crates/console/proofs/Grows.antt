@@ -1,24 +1,23 @@
 -- A console store keeps the text that fits and counts the rest.
-use mathlib.Core.Path.{_≡_, refl, sym, ap, _∙_}
-use mathlib.Core.Bool.{Bool, true, false}
-use mathlib.Core.List.{List, [], _∷_, _++_}
+use mathlib.Core.Path.{_≡_, sym, ap, _∙_}
+use mathlib.Core.Bool.{true}
+use mathlib.Core.List.{List, _++_}
 use mathlib.Core.Logic.{_⊎_, inl, inr}
-use Prim.Native.Nat.{ℕ, min, _+_, _-_, _*_, _%_, _^_, _<_, _≤_}
+use Prim.Native.Nat.{ℕ, min, _+_, _-_, _^_, _<_, _≤_}
 use native.Mathlib.Nat.{mod-eq-of-lt}
 use native.Mathlib.Omega.{arith}
-use lib.Dec.{leb}
 use lib.ListN.{length, take, drop}
 use lib.Seq.{take-append-add}
 use Rattle.std.proofs.shelf.Lists.{length-take, length-drop, take-all, take-at, drop-take, drop-append-le}
 use Rattle.std.proofs.shelf.Tests.{cases-lt}
 use Rattle.std.proofs.shelf.Ways.{tells}
 use Rattle.words.specs.Bytes.{overwrite}
-use Rattle.words.specs.Numbers.{get, put}
-use Rattle.words.proofs.Laid.{length-overwrite, overwrite-within, overwrite-none, drop-apart}
+use Rattle.words.specs.Numbers.{put}
+use Rattle.words.proofs.Laid.{length-overwrite, overwrite-within, overwrite-none}
 use Rattle.words.proofs.Widths.{length-put, reads-back, get-apart, drop-put}
 use Rattle.class.specs.Refusals.{is-store}
 use Rattle.console.specs.Service.{kept-in, lost-in, room, fits, append}
-use Rattle.console.specs.Log.{text-in, Text-grows, Every-byte-counted}
+use Rattle.console.specs.Log.{text-in}
 
 take-on : (xs ys : List ℕ) (k m : ℕ) → length xs ≡ k → take (k + m) (xs ++ ys) ≡ xs ++ take m ys
 take-on xs ys k m h = ap (λ j. take (j + m) (xs ++ ys)) (sym h) ∙ take-append-add xs ys m

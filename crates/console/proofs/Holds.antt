@@ -1,17 +1,15 @@
 -- The console class keeps the law of classes.
-use mathlib.Core.Path.{_≡_, refl, sym, ap, _∙_}
-use mathlib.Core.Bool.{Bool, true, false, cond, _&&_}
-use mathlib.Core.List.{List, [], _∷_}
+use mathlib.Core.Path.{_≡_, refl, ap, _∙_}
+use mathlib.Core.Bool.{true, false, cond, _&&_}
+use mathlib.Core.List.{List}
 use mathlib.Core.Logic.{_⊎_, inl, inr}
 use Prim.Native.Nat.{ℕ, _+_, _<_, _≤_}
 use native.Mathlib.Omega.{arith}
-use lib.Dec.{eqb, leb}
 use lib.ListN.{length, getD}
 use Rattle.std.proofs.shelf.Tests.{and-from, cases-lt}
 use Rattle.std.proofs.shelf.Ways.{tells}
 use Rattle.std.specs.declared.option.Option.the-variants.{Some, None}
-use Rattle.words.specs.Bytes.{part, overwrite}
-use Rattle.words.specs.Numbers.{put}
+use Rattle.words.specs.Bytes.{part}
 use Rattle.words.proofs.Laid.{length-overwrite, part-of-same, byte-apart}
 use Rattle.words.proofs.Widths.{length-put}
 use Rattle.entries.specs.declared.shapes.Entry.{Entry}
@@ -20,7 +18,7 @@ use Rattle.entries.specs.Sameness.{same}
 use Rattle.entries.proofs.Judged.{same-self}
 use Rattle.class.specs.Kinds.{Asked}
 use Rattle.class.specs.Rules.{effect}
-use Rattle.class.specs.Laws.{Named, Writable}
+use Rattle.class.specs.Laws.{Named}
 use Rattle.class.proofs.Values.{same-asked, by-stated}
 use Rattle.console.specs.Requests.{sendable, refused}
 use Rattle.console.specs.Layout.{entry-for, lays, line-in, reads}

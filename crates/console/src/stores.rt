@@ -51,7 +51,7 @@ pub struct Counts {
 }
 
 impl Counts {
-    // The two counts, wherever they stand.
+    // The two counts at the start of a store.
     fn of(store: &[u8]) -> Counts
         ensures both { λ r. ⌜ r ≡ record { kept = kept-in (now (store .entry)); lost = lost-in (now (store .entry)) } ⌝ }
         ensures in_32_bits { λ _. ⌜ kept-in (now (store .entry)) < 2 ^ 32 ⌝ }

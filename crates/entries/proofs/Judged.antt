@@ -1,17 +1,16 @@
 -- The tests of entries say what they mean.
-use mathlib.Core.Path.{_≡_, refl, sym, ap, _∙_}
-use mathlib.Core.Bool.{Bool, true, false, cond, not, _&&_, _||_}
-use Prim.Native.Nat.{ℕ, zero, suc, _+_, _<_, _≤_}
+use mathlib.Core.Path.{_≡_, refl}
+use mathlib.Core.Bool.{Bool, true, false, not, _||_}
+use Prim.Native.Nat.{ℕ, zero, suc, _<_, _≤_}
 use native.Mathlib.Omega.{arith}
-use borrow.Author.Needs.{needs}
-use lib.Dec.{leb, ltb, eqb}
+use lib.Dec.{ltb}
 use Rattle.std.specs.Orderings.{Decides}
 use Rattle.std.proofs.shelf.Tests.{lt-ltb}
 use Rattle.std.proofs.shelf.Ways.{tells, decides-at}
 use Rattle.entries.specs.declared.shapes.Segment.{Segment}
 use Rattle.entries.specs.declared.shapes.Entry.{Entry}
-use Rattle.entries.specs.Sameness.{same-segment, same-places, same, Same}
-use Rattle.entries.specs.Legality.{blank, place, used, unused, follows, legal-tag, legal-chain, legal, Legal}
+use Rattle.entries.specs.Sameness.{same-segment, same, Same}
+use Rattle.entries.specs.Legality.{blank, place, unused, follows, legal, Legal}
 
 three : (P : ℕ → Type 0) → P 0 → P 1 → P 2 → (i : ℕ) → i < 3 → P i
 three P a b c zero h = a
@@ -121,6 +120,3 @@ same-self e = grind (arith, tells)
 -- an answer that is the test's says what the test says
 pub legal-told : (e : Entry) (r : Bool) → r ≡ legal e → Decides r (Legal e)
 legal-told e r h = decides-at r (legal e) h (legal-decides e)
-
-pub same-told : (d e : Entry) (r : Bool) → r ≡ same d e → Decides r (Same d e)
-same-told d e r h = decides-at r (same d e) h (same-decides d e)

@@ -1,18 +1,17 @@
 -- A sector that is written and then read holds the same bytes.
-use mathlib.Core.Path.{_≡_, refl, sym, ap, _∙_}
-use mathlib.Core.Bool.{Bool, true, false, cond, not}
-use mathlib.Core.List.{List, []}
+use mathlib.Core.Path.{_≡_, refl, ap, _∙_}
+use mathlib.Core.Bool.{Bool, true, false, not}
+use mathlib.Core.List.{List}
 use Prim.Native.Nat.{ℕ}
 use native.Mathlib.Omega.{arith}
 use lib.Dec.{eqb, leb}
 use lib.ListN.{length}
 use Rattle.std.proofs.shelf.Ways.{tells}
-use Rattle.std.specs.declared.option.Option.{Option}
 use Rattle.std.specs.declared.option.Option.the-variants.{None}
 use Rattle.std.specs.declared.result.Result.the-variants.{Ok}
 use Rattle.entries.specs.Refusals.{kept}
 use Rattle.class.specs.Cells.{is-cell}
-use Rattle.class.specs.Kinds.{Asked, Answer}
+use Rattle.class.specs.Kinds.{Answer}
 use Rattle.class.specs.Refusals.{is-store, carry-refusal, read-refusal}
 use Rattle.class.specs.Rules.{carried, data-of}
 use Rattle.class.proofs.Carries.{accepted}

@@ -16,6 +16,7 @@ use class::Class;
 use class::Reply;
 use class::Request;
 use class::carry;
+use console::Console;
 use console::ConsoleClass;
 use console::tally;
 use console::text;
@@ -96,14 +97,6 @@ fn step<C: Class>(
     tell::<C>(rt, name, result, cell)
 }
 
-fn on_disk(code: u32, place: u64, payload: &[u8]) -> Request<'_> {
-    Request {
-        code,
-        place,
-        payload,
-    }
-}
-
 // Writes a sector and reads it back; whether the same bytes are found there.
 fn write_and_read(
     rt: &LibcRuntime,
@@ -124,9 +117,18 @@ fn write_and_read(
         place: sector,
         payload: &[],
     };
-    step::<BlockClass>(rt, "write the board", DISK_TAG, write, cell, disk)?;
-    step::<BlockClass>(rt, "read it back", DISK_TAG, read, cell, disk)?;
+    step::<Block>(rt, "write the board", DISK_TAG, write, cell, disk)?;
+    step::<Block>(rt, "read it back", DISK_TAG, read, cell, disk)?;
     Ok(Block::data(cell)? == board)
+}
+
+// A request that carries no bytes.
+fn bare(code: u32, place: u64) -> Request<'static> {
+    Request {
+        code,
+        place,
+        payload: &[],
+    }
 }
 
 fn use_disk(rt: &LibcRuntime, disk: &mut [u8]) -> Result<(), Stop> {
@@ -136,30 +138,23 @@ fn use_disk(rt: &LibcRuntime, disk: &mut [u8]) -> Result<(), Stop> {
     println!(rt, "disk: {count} sectors")?;
     let same = write_and_read(rt, 2, &board, &mut cell, disk)?;
     println!(rt, "the same bytes: {same}")?;
-    step::<BlockClass>(
+    step::<Block>(
         rt,
-        "read sector 4",
+        "read past the end",
         DISK_TAG,
-        on_disk(READ, 4, &[]),
+        bare(READ, count),
         &mut cell,
         disk,
     )?;
     let zeroes = Block::data(&cell)? == &[0; 512];
     println!(rt, "only zeroes: {zeroes}")?;
-    step::<BlockClass>(
+    step::<Block>(rt, "flush", DISK_TAG, bare(FLUSH, 0), &mut cell, disk)?;
+    step::<Block>(rt, "type 9", DISK_TAG, bare(9, 0), &mut cell, disk)?;
+    step::<Block>(
         rt,
-        "flush",
+        "write no bytes",
         DISK_TAG,
-        on_disk(FLUSH, 0, &[]),
-        &mut cell,
-        disk,
-    )?;
-    step::<BlockClass>(rt, "type 9", DISK_TAG, on_disk(9, 0, &[]), &mut cell, disk)?;
-    step::<BlockClass>(
-        rt,
-        "write 511 bytes",
-        DISK_TAG,
-        on_disk(WRITE, 2, &board[0..511]),
+        bare(WRITE, 2),
         &mut cell,
         disk,
     )
@@ -169,27 +164,14 @@ fn use_disk(rt: &LibcRuntime, disk: &mut [u8]) -> Result<(), Stop> {
 fn report(rt: &LibcRuntime, log: &mut [u8]) -> Result<(), Stop> {
     let mut cell = [0xee; CELL_SIZE];
     for i in 1..=9u8 {
-        let line = [
-            b'n',
-            b'e',
-            b't',
-            b' ',
-            b'0' + i,
-            b' ',
-            b'r',
-            b'o',
-            b'u',
-            b't',
-            b'e',
-            b'd',
-            b'\n',
-        ];
+        let mut line = *b"net 0 routed\n";
+        line[4] = b'0' + i;
         let request = Request {
             code: 0,
             place: 0,
             payload: &line,
         };
-        step::<ConsoleClass>(rt, "progress", CONSOLE_TAG, request, &mut cell, log)?;
+        step::<Console>(rt, "progress", CONSOLE_TAG, request, &mut cell, log)?;
         let counts = tally(log)?;
         let kept = counts.kept;
         let lost = counts.lost;

@@ -1,18 +1,17 @@
 -- What a write to a part leaves: the part reads back, and what lies apart stays.
-use mathlib.Core.Path.{_≡_, refl, sym, ap, _∙_}
-use mathlib.Core.Bool.{Bool, true, false, cond}
+use mathlib.Core.Path.{_≡_, sym, ap, _∙_}
+use mathlib.Core.Bool.{true}
 use mathlib.Core.List.{List, [], _∷_, _++_}
 use mathlib.Core.Logic.{_⊎_, inl, inr}
-use Prim.Native.Nat.{ℕ, zero, suc, min, _+_, _-_, _*_, _/_, _%_, _^_, _≤_, _<_}
+use Prim.Native.Nat.{ℕ, _+_, _-_, _≤_, _<_}
 use native.Mathlib.Omega.{arith}
 use borrow.Author.Needs.{needs}
 use borrow.Rule.Slice.PartMut.{putMid}
 use lib.Dec.{leb}
 use lib.ListN.{length, take, drop, getD}
-use Rattle.std.proofs.shelf.Lists.{places, same-lists, length-take, length-drop, length-append, take-at, drop-at, getD-take, getD-drop, drop-drop, getD-at}
+use Rattle.std.proofs.shelf.Lists.{places, same-lists, length-take, length-drop, take-at, drop-at, getD-take, getD-drop, drop-drop, getD-at}
 use Rattle.std.proofs.shelf.Ways.{leb-tells, tells}
 use Rattle.words.specs.Bytes.{part, overwrite}
-use Rattle.words.specs.Numbers.{le, value, get, put}
 
 pub part-within : (at k : ℕ) (xs : List ℕ) → at + k ≤ length xs → part at k xs ≡ take k (drop at xs)
 unfolding part

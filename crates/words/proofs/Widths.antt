@@ -5,7 +5,7 @@ use mathlib.Core.List.{List, [], _∷_}
 use mathlib.Core.Logic.{_⊎_, inl, inr}
 use Prim.Native.Nat.{ℕ, zero, suc, _+_, _*_, _/_, _%_, _^_, _≤_, _<_}
 use native.Mathlib.Omega.{arith}
-use native.Mathlib.Nat.{mul-comm, pow-suc, one-le-pow}
+use native.Mathlib.Nat.{pow-suc, one-le-pow}
 use lib.Arith.{mod-mul}
 use lib.Dec.{leb, lit<}
 use lib.ListN.{length, take, drop, getD}

@@ -6,7 +6,7 @@ ghost use Rattle.words.specs.Numbers.{four, get, put};
 use crate::parts::overwrite;
 use crate::parts::within;
 
-// Four bytes, and eight, that are known to lie within.
+// Numbers of four and eight bytes that are known to lie within.
 fn four_bytes(bytes: &[u8], at: usize) -> u32
     requires { ⌜ at + 4 ≤ length (now bytes) ⌝ }
     ensures { λ r. ⌜ r ≡ four (now (bytes .entry)) at ⌝ }

@@ -13,7 +13,7 @@ pub(crate) fn within(len: usize, at: usize, count: usize) -> bool
     at <= len && count <= len - at
 }
 
-// The same three on parts that are known to lie within.
+// Reading, writing and zeroing a part that is known to lie within.
 fn part_within(bytes: &[u8], at: usize, count: usize) -> &[u8]
     requires { ⌜ at + count ≤ length (now bytes) ⌝ }
     ensures { λ r. ⌜ now r ≡ take count (drop at (now (bytes .entry))) ⌝ }

@@ -4,9 +4,7 @@ use mathlib.Core.Bool.{true}
 use mathlib.Core.List.{List}
 use Prim.Native.Nat.{ℕ}
 use lib.ListN.{getD}
-use Rattle.std.specs.declared.option.Option.the-variants.{None}
 use Rattle.std.proofs.shelf.Tests.{both-ways}
-use Rattle.entries.specs.Refusals.{unless}
 use Rattle.class.specs.Kinds.{asked, Sized}
 use Rattle.class.specs.Refusals.{room-refusal}
 use Rattle.class.proofs.Carries.{accepted, Chain, same-reply, same-data, same-store, same-cell, rest-stays}

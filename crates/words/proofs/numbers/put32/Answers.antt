@@ -1,4 +1,4 @@
-use mathlib.Core.Path.{_≡_, sym, ap, _∙_}
+use mathlib.Core.Path.{_≡_, ap, _∙_}
 use native.Mathlib.Nat.{div-div-eq-div-mul}
 use Rattle.words.specs.Bytes.{overwrite}
 use Rattle.words.specs.Numbers.{le, put}

@@ -18,6 +18,6 @@ lawful-law = record {
   lays-length = lays-length;
   serves-length = serves-length;
   store-length = store-length;
-  lays-only-named = lays-only-named;
+  lays-only-named = λ t r cell kept i h. lays-only-named t r cell i kept h;
   serves-only-writable = serves-only-writable;
 }

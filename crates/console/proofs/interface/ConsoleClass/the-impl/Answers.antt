@@ -18,6 +18,6 @@ lawful-law = record {
   lays-length = λ r cell. length-overwrite 16 (r .payload) cell;
   serves-length = λ e cell store. ap (λ (x : List ℕ). length x) (cell-stays e cell store);
   store-length = store-length;
-  lays-only-named = λ t r cell i kept h. lays-only-named t r cell i h;
+  lays-only-named = λ t r cell kept i h. lays-only-named t r cell i h;
   serves-only-writable = λ e cell store i h. ap (λ (x : List ℕ). getD x i 0) (cell-stays e cell store);
 }
