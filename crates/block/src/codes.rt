@@ -25,7 +25,7 @@ pub(crate) const NOT_SERVED: u8 = 255;
 
 // A write has one sector of payload, anything else none, and a flush names no place.
 pub(crate) fn is_refused(request: Request<'_>) -> bool
-    ensures { λ r. ⌜ r ≡ refused (asked (request .entry)) ⌝ }
+    ensures by_the_request_alone { λ r. ⌜ r ≡ refused (asked (request .entry)) ⌝ }
 {
     match request.code {
         WRITE => request.payload.len() != SECTOR_SIZE,

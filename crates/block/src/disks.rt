@@ -12,7 +12,7 @@ use entries::Refusal;
 
 // A partial last sector does not count.
 pub(crate) fn sector_count(store: &[u8]) -> u64
-    ensures { λ r. ⌜ r ≡ length (now (store .entry)) / sector-size ⌝ }
+    ensures whole_sectors { λ r. ⌜ r ≡ length (now (store .entry)) / sector-size ⌝ }
 {
     (store.len() / SECTOR_SIZE) as u64
 }

@@ -26,7 +26,7 @@ const RESERVED_AT: usize = 4;
 
 // The entry of a tag's request with this code: reads and writes have data, and the device writes only the status and a read's data.
 pub(crate) fn entry_for(tag: u16, code: u32) -> Entry
-    ensures { λ r. ⌜ r ≡ entry-for tag code ⌝ }
+    ensures segments_of_its_type { λ r. ⌜ r ≡ entry-for tag code ⌝ }
 {
     let at = cell_address(tag);
     let header = Segment {
@@ -61,7 +61,7 @@ pub(crate) fn entry_for(tag: u16, code: u32) -> Entry
 
 // Writes the request. A read's data is zeroed, so that no older data is taken for an answer.
 pub(crate) fn lay_cell(request: Request<'_>, cell: &mut [u8])
-    ensures { λ _. ⌜ now (cell .exit) ≡ lays (asked (request .entry)) (now (cell .entry)) ⌝ }
+    ensures request_in_the_cell { λ _. ⌜ now (cell .exit) ≡ lays (asked (request .entry)) (now (cell .entry)) ⌝ }
 {
     put32(cell, TYPE_AT, request.code);
     put32(cell, RESERVED_AT, 0);

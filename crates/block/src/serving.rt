@@ -35,7 +35,7 @@ const READ_WRITTEN: u32 = 513;
 
 // Where a sector lies in the store, if it is there. A sector is compared before it is multiplied, so no sector overflows.
 fn sector_at(sector: u64, store: &[u8]) -> Option<usize>
-    ensures { λ r. ⌜ r ≡ cond (has-sector (now (store .entry)) sector) (Some (sector-size * sector)) None ⌝ }
+    ensures where_it_lies { λ r. ⌜ r ≡ cond (has-sector (now (store .entry)) sector) (Some (sector-size * sector)) None ⌝ }
 {
     if sector < sector_count(store) {
         Some(SECTOR_SIZE * sector as usize)
@@ -46,8 +46,8 @@ fn sector_at(sector: u64, store: &[u8]) -> Option<usize>
 
 // Copies a sector into the cell's data, or zeroes the data where there is no such sector. Gives the status.
 fn read_sector(sector: u64, cell: &mut [u8], store: &[u8]) -> u8
-    ensures status { λ r. ⌜ r ≡ plain-read (now (store .entry)) sector .answer .status ⌝ }
-    ensures cell { λ _. ⌜ now (cell .exit) ≡ overwrite data-at (plain-read (now (store .entry)) sector .answer .bytes) (now (cell .entry)) ⌝ }
+    ensures plain_status { λ r. ⌜ r ≡ plain-read (now (store .entry)) sector .answer .status ⌝ }
+    ensures plain_data { λ _. ⌜ now (cell .exit) ≡ overwrite data-at (plain-read (now (store .entry)) sector .answer .bytes) (now (cell .entry)) ⌝ }
 {
     match sector_at(sector, store) {
         Some(at) => {
@@ -63,8 +63,8 @@ fn read_sector(sector: u64, cell: &mut [u8], store: &[u8]) -> u8
 
 // Copies the cell's data into a sector, if there is such a sector. Gives the status.
 fn write_sector(sector: u64, cell: &[u8], store: &mut [u8]) -> u8
-    ensures status { λ r. ⌜ r ≡ plain-write (now (store .entry)) sector (part data-at data-size (now (cell .entry))) .answer .status ⌝ }
-    ensures store { λ _. ⌜ now (store .exit) ≡ plain-write (now (store .entry)) sector (part data-at data-size (now (cell .entry))) .store ⌝ }
+    ensures plain_status { λ r. ⌜ r ≡ plain-write (now (store .entry)) sector (part data-at data-size (now (cell .entry))) .answer .status ⌝ }
+    ensures plain_store { λ _. ⌜ now (store .exit) ≡ plain-write (now (store .entry)) sector (part data-at data-size (now (cell .entry))) .store ⌝ }
 {
     match sector_at(sector, store) {
         Some(at) => {
@@ -77,9 +77,9 @@ fn write_sector(sector: u64, cell: &[u8], store: &mut [u8]) -> u8
 
 // Serves the request that lies in the cell, and gives the written length.
 pub(crate) fn serve_cell(cell: &mut [u8], store: &mut [u8]) -> u32
-    ensures written { λ r. ⌜ r ≡ plain (now (store .entry)) (asked-in (now (cell .entry))) .answer .written ⌝ }
-    ensures cell { λ _. ⌜ now (cell .exit) ≡ answers (plain (now (store .entry)) (asked-in (now (cell .entry))) .answer) (now (cell .entry)) ⌝ }
-    ensures store { λ _. ⌜ now (store .exit) ≡ plain (now (store .entry)) (asked-in (now (cell .entry))) .store ⌝ }
+    ensures plain_written { λ r. ⌜ r ≡ plain (now (store .entry)) (asked-in (now (cell .entry))) .answer .written ⌝ }
+    ensures answer_in_the_cell { λ _. ⌜ now (cell .exit) ≡ answers (plain (now (store .entry)) (asked-in (now (cell .entry))) .answer) (now (cell .entry)) ⌝ }
+    ensures plain_store { λ _. ⌜ now (store .exit) ≡ plain (now (store .entry)) (asked-in (now (cell .entry))) .store ⌝ }
 {
     let code = get32(cell, TYPE_AT);
     let sector = get64(cell, SECTOR_AT);

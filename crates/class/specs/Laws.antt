@@ -6,7 +6,7 @@ use Prim.Native.Nat.{ℕ, _+_, _<_, _≤_}
 use lib.ListN.{length, getD}
 use Rattle.std.specs.declared.option.Option.the-variants.{Some}
 use Rattle.entries.specs.declared.shapes.Entry.{Entry}
-use Rattle.entries.specs.Legality.{place, legal}
+use Rattle.entries.specs.Legality.{last-tag, place, legal}
 use Rattle.class.specs.Cells.{address, cell-size}
 use Rattle.class.specs.Kinds.{Asked, Sized, Kind}
 use Rattle.class.specs.Rules.{effect}
@@ -27,7 +27,7 @@ Stays-outside P before after = (i : ℕ) → (P i → ⊥) → getD after i 0 �
 
 pub record Lawful (kind : Kind) : Type 0 where
   -- laying gives a legal entry of the tag, within the longest chain
-  pub legal-entry : (t : ℕ) (r : Asked) → t ≤ 15 → kind .refuses r ≡ false → legal (kind .entry t r) ≡ true
+  pub legal-entry : (t : ℕ) (r : Asked) → t ≤ last-tag → kind .refuses r ≡ false → legal (kind .entry t r) ≡ true
   pub own-tag : (t : ℕ) (r : Asked) → kind .entry t r .tag ≡ t
   pub within-longest : (t : ℕ) (r : Asked) → kind .entry t r .count ≤ kind .longest
   -- what was laid is what serving reads

@@ -8,12 +8,17 @@ use Rattle.std.specs.declared.option.Option.{Option}
 use Rattle.std.specs.declared.option.Option.the-variants.{None}
 use Rattle.entries.specs.declared.refusals.Refusal.{Refusal}
 use Rattle.entries.specs.declared.refusals.Refusal.the-variants.{CellSize, StoreSize, BadRequest, BadEntry}
+use Rattle.entries.specs.Legality.{last-tag}
 use Rattle.entries.specs.Refusals.{refuse}
 use Rattle.class.specs.Cells.{is-cell}
 
--- a store that a class can work on: not below its least, not above 2^32 bytes
+-- no store is larger than 2^32 bytes
+abbrev pub largest-store : ℕ
+largest-store = 4294967296
+
+-- a store that a class can work on: not below its least, and no larger than any may be
 abbrev pub is-store : ℕ → List ℕ → Bool
-is-store least store = leb least (length store) && leb (length store) 4294967296
+is-store least store = leb least (length store) && leb (length store) largest-store
 
 abbrev pub read-refusal : List ℕ → Option Refusal
 read-refusal cell =
@@ -24,7 +29,7 @@ abbrev pub lay-refusal : ℕ → Bool → List ℕ → Option Refusal
 lay-refusal t bad cell =
     refuse CellSize (not (is-cell cell))
     (refuse BadRequest bad
-    (refuse BadEntry (ltb 15 t)
+    (refuse BadEntry (ltb last-tag t)
     None))
 
 abbrev pub store-refusal : ℕ → List ℕ → Option Refusal
@@ -42,7 +47,7 @@ abbrev pub serve-refusal : ℕ → ℕ → List ℕ → List ℕ → Option Refu
 serve-refusal t least cell store =
     refuse CellSize (not (is-cell cell))
     (refuse StoreSize (not (is-store least store))
-    (refuse BadEntry (ltb 15 t)
+    (refuse BadEntry (ltb last-tag t)
     None))
 
 -- of laying and then serving
@@ -51,5 +56,5 @@ carry-refusal t bad least cell store =
     refuse CellSize (not (is-cell cell))
     (refuse StoreSize (not (is-store least store))
     (refuse BadRequest bad
-    (refuse BadEntry (ltb 15 t)
+    (refuse BadEntry (ltb last-tag t)
     None)))

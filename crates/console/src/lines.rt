@@ -11,21 +11,21 @@ use entries::Entry;
 use entries::Segment;
 
 pub(crate) fn is_sendable(length: usize) -> bool
-    ensures { λ r. ⌜ r ≡ sendable length ⌝ }
+    ensures from_1_to_512 { λ r. ⌜ r ≡ sendable length ⌝ }
 {
     1 <= length && length <= DATA_SIZE
 }
 
 // The console has one code and one place, both 0.
 pub(crate) fn is_refused(request: Request<'_>) -> bool
-    ensures { λ r. ⌜ r ≡ refused (asked (request .entry)) ⌝ }
+    ensures by_the_request_alone { λ r. ⌜ r ≡ refused (asked (request .entry)) ⌝ }
 {
     request.code != 0 || request.place != 0 || !is_sendable(request.payload.len())
 }
 
 // The entry of a tag's line of this length.
 pub(crate) fn entry_for(tag: u16, length: u32) -> Entry
-    ensures { λ r. ⌜ r ≡ entry-for tag length ⌝ }
+    ensures one_line_to_read { λ r. ⌜ r ≡ entry-for tag length ⌝ }
 {
     let line = Segment {
         start: cell_address(tag) + DATA_AT as u64,

@@ -24,7 +24,7 @@ const TEXT_AT: usize = 8;
 // Appends what fits after the kept text. The rest is lost, and counted up to the largest count there is.
 pub(crate) fn append_line(line: &[u8], store: &mut [u8])
     requires { ⌜ length (now line) ≤ 512 ⌝ ∗ ⌜ length (now store) ≤ 2 ^ 32 ⌝ }
-    ensures { λ _. ⌜ now (store .exit) ≡ append (now (store .entry)) (now (line .entry)) ⌝ }
+    ensures what_fits_appended { λ _. ⌜ now (store .exit) ≡ append (now (store .entry)) (now (line .entry)) ⌝ }
 {
     let kept = get32(store, KEPT_AT);
     let lost = get32(store, LOST_AT);
@@ -74,7 +74,7 @@ pub fn tally(store: &[u8]) -> Result<Counts, Refusal>
 // The text after the counts, as far as it is kept and as the store reaches.
 fn text_within(store: &[u8], kept: usize) -> &[u8]
     requires { ⌜ 8 ≤ length (now store) ⌝ }
-    ensures { λ r. ⌜ now r ≡ take (min kept (length (now (store .entry)) - 8)) (drop 8 (now (store .entry))) ⌝ }
+    ensures kept_text { λ r. ⌜ now r ≡ take (min kept (length (now (store .entry)) - 8)) (drop 8 (now (store .entry))) ⌝ }
 {
     let within = kept.min(store.len() - TEXT_AT);
     &store[TEXT_AT..TEXT_AT + within]

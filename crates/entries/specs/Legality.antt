@@ -7,6 +7,10 @@ use lib.ListN.{getD}
 use Rattle.entries.specs.declared.shapes.Segment.{Segment}
 use Rattle.entries.specs.declared.shapes.Entry.{Entry}
 
+-- tags go from 0 to this one
+abbrev pub last-tag : ℕ
+last-tag = 15
+
 -- what a place holds that no segment uses
 abbrev pub blank : Segment
 blank = record { start = 0; length = 0; writable = false }
@@ -32,14 +36,14 @@ legal-chain e = let a = place e 0 in let b = place e 1 in let c = place e 2 in
     false))
 
 abbrev pub legal-tag : Entry → Bool
-legal-tag e = leb (e .tag) 15
+legal-tag e = leb (e .tag) last-tag
 
 abbrev pub legal : Entry → Bool
 legal e = legal-tag e && legal-chain e
 
 -- the same in the words of the subject
 pub record Legal (e : Entry) : Type 0 where
-  pub tag-has-cell : e .tag ≤ 15
+  pub tag-has-cell : e .tag ≤ last-tag
   pub some-segment : 1 ≤ e .count
   pub at-most-three : e .count ≤ 3
   pub no-length-zero : (i : ℕ) → i < e .count → 0 < place e i .length

@@ -9,26 +9,26 @@ use crate::shapes::Segment;
 
 impl Segment {
     fn is_used(&self) -> bool
-        ensures { λ r. ⌜ r ≡ used (now (self .entry)) ⌝ }
+        ensures some_length { λ r. ⌜ r ≡ used (now (self .entry)) ⌝ }
     {
         self.length > 0
     }
 
     fn is_unused(&self) -> bool
-        ensures { λ r. ⌜ r ≡ unused (now (self .entry)) ⌝ }
+        ensures nothing_in_it { λ r. ⌜ r ≡ unused (now (self .entry)) ⌝ }
     {
         self.start == 0 && self.length == 0 && !self.writable
     }
 
     // Read-only segments come first: after a writable one only writable ones may come.
     fn may_follow(&self, before: &Segment) -> bool
-        ensures { λ r. ⌜ r ≡ follows (now (before .entry)) (now (self .entry)) ⌝ }
+        ensures read_only_first { λ r. ⌜ r ≡ follows (now (before .entry)) (now (self .entry)) ⌝ }
     {
         !before.writable || self.writable
     }
 
     fn is_same(&self, other: &Segment) -> bool
-        ensures { λ r. ⌜ r ≡ same-segment (now (self .entry)) (now (other .entry)) ⌝ }
+        ensures same_in_every_field { λ r. ⌜ r ≡ same-segment (now (self .entry)) (now (other .entry)) ⌝ }
     {
         self.start == other.start && self.length == other.length && self.writable == other.writable
     }
@@ -36,13 +36,13 @@ impl Segment {
 
 impl Entry {
     fn has_legal_tag(&self) -> bool
-        ensures { λ r. ⌜ r ≡ legal-tag (now (self .entry)) ⌝ }
+        ensures tag_has_a_cell { λ r. ⌜ r ≡ legal-tag (now (self .entry)) ⌝ }
     {
         self.tag <= LAST_TAG
     }
 
     fn has_legal_chain(&self) -> bool
-        ensures { λ r. ⌜ r ≡ legal-chain (now (self .entry)) ⌝ }
+        ensures legal_by_its_count { λ r. ⌜ r ≡ legal-chain (now (self .entry)) ⌝ }
     {
         let [a, b, c] = self.segments;
         match self.count {
@@ -61,7 +61,7 @@ impl Entry {
     }
 
     fn has_same_places(&self, other: &Entry) -> bool
-        ensures { λ r. ⌜ r ≡ same-places (now (self .entry)) (now (other .entry)) ⌝ }
+        ensures same_in_every_place { λ r. ⌜ r ≡ same-places (now (self .entry)) (now (other .entry)) ⌝ }
     {
         let [a, b, c] = self.segments;
         let [x, y, z] = other.segments;

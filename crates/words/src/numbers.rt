@@ -9,14 +9,14 @@ use crate::parts::within;
 // Numbers of four and eight bytes that are known to lie within.
 fn four_bytes(bytes: &[u8], at: usize) -> u32
     requires { ⌜ at + 4 ≤ length (now bytes) ⌝ }
-    ensures { λ r. ⌜ r ≡ four (now (bytes .entry)) at ⌝ }
+    ensures little_endian { λ r. ⌜ r ≡ four (now (bytes .entry)) at ⌝ }
 {
     u32::from_le_bytes([bytes[at], bytes[at + 1], bytes[at + 2], bytes[at + 3]])
 }
 
 fn eight_bytes(bytes: &[u8], at: usize) -> u64
     requires { ⌜ at + 8 ≤ length (now bytes) ⌝ }
-    ensures { λ r. ⌜ r ≡ four (now (bytes .entry)) at + four (now (bytes .entry)) (at + 4) * 2 ^ 32 ⌝ }
+    ensures little_endian { λ r. ⌜ r ≡ four (now (bytes .entry)) at + four (now (bytes .entry)) (at + 4) * 2 ^ 32 ⌝ }
 {
     let low = four_bytes(bytes, at);
     let high = four_bytes(bytes, at + 4);

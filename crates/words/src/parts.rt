@@ -8,7 +8,7 @@ ghost use Rattle.words.specs.Bytes.{part, overwrite};
 
 // Whether `count` bytes lie within `len` from `at` on, without a sum that could overflow.
 pub(crate) fn within(len: usize, at: usize, count: usize) -> bool
-    ensures { λ r. ⌜ r ≡ leb (at + count) len ⌝ }
+    ensures exactly_when_within { λ r. ⌜ r ≡ leb (at + count) len ⌝ }
 {
     at <= len && count <= len - at
 }
@@ -16,21 +16,21 @@ pub(crate) fn within(len: usize, at: usize, count: usize) -> bool
 // Reading, writing and zeroing a part that is known to lie within.
 fn part_within(bytes: &[u8], at: usize, count: usize) -> &[u8]
     requires { ⌜ at + count ≤ length (now bytes) ⌝ }
-    ensures { λ r. ⌜ now r ≡ take count (drop at (now (bytes .entry))) ⌝ }
+    ensures those_bytes { λ r. ⌜ now r ≡ take count (drop at (now (bytes .entry))) ⌝ }
 {
     &bytes[at..at + count]
 }
 
 fn overwrite_within(bytes: &mut [u8], at: usize, new: &[u8])
     requires { ⌜ at + length (now new) ≤ length (now bytes) ⌝ }
-    ensures { λ _. ⌜ now (bytes .exit) ≡ putMid at (length (now (new .entry))) (now (bytes .entry)) (now (new .entry)) ⌝ }
+    ensures later_bytes { λ _. ⌜ now (bytes .exit) ≡ putMid at (length (now (new .entry))) (now (bytes .entry)) (now (new .entry)) ⌝ }
 {
     bytes[at..at + new.len()].copy_from_slice(new);
 }
 
 fn zero_within(bytes: &mut [u8], at: usize, count: usize)
     requires { ⌜ at + count ≤ length (now bytes) ⌝ }
-    ensures { λ _. ⌜ now (bytes .exit) ≡ putMid at count (now (bytes .entry)) (replicate count 0) ⌝ }
+    ensures later_bytes { λ _. ⌜ now (bytes .exit) ≡ putMid at count (now (bytes .entry)) (replicate count 0) ⌝ }
 {
     bytes[at..at + count].fill(0);
 }

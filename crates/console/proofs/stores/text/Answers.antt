@@ -17,7 +17,7 @@ pub returns : need.returns
 returns c =
     let small : kept-in (c .args .store .now) < 2 ^ 32 = omega (arith, c .get32-kept .ensures .little-endian) in
     let store = c .args .store .now in
-    let cut = c .text-within .ensures ∙ ap (λ k. take (min k (length store - 8)) (drop 8 store)) (c .get32-kept .ensures .little-endian) ∙ cut-at-end store (kept-in store) in
+    let cut = c .text-within .ensures .kept-text ∙ ap (λ k. take (min k (length store - 8)) (drop 8 store)) (c .get32-kept .ensures .little-endian) ∙ cut-at-end store (kept-in store) in
     let clear = accepted (store-refusal 8 (c .args .store .now)) (c .in-Continue-check-store .field-0) tt (c .in-Continue-check-store .ensures tt .smallest-that-fits) .0 in
     record { kept-text = ap Ok cut ∙ ap (λ o. unless o (text-in (c .args .store .now))) (sym clear); grows-by-what-fits = λ line sound. grows (c .args .store .now) line small sound }
 

@@ -10,7 +10,7 @@ pub returns-then-within : need.returns-then-within
 unfolding value each
 returns-then-within c =
     let first = ap (λ i. getD (c .args .bytes .now) i 0) (add-zero (c .args .at)) in
-    record { little-endian = omega (arith, first, c .four-bytes .ensures, get-inside 4 (c .args .at) (c .args .bytes .now) (c .if-within .ensures tt)) }
+    record { little-endian = omega (arith, first, c .four-bytes .ensures .little-endian, get-inside 4 (c .args .at) (c .args .bytes .now) (c .if-within .ensures tt .exactly-when-within)) }
 
 pub returns-else-within : need.returns-else-within
-returns-else-within c = record { little-endian = get-outside 4 (c .args .at) (c .args .bytes .now) (c .if-within .ensures tt) }
+returns-else-within c = record { little-endian = get-outside 4 (c .args .at) (c .args .bytes .now) (c .if-within .ensures tt .exactly-when-within) }

@@ -13,7 +13,7 @@ returns-then-within c =
     let fifth = ap (λ i. getD (c .args .bytes .now) i 0) (add-assoc (c .args .at) 4 1) in
     let sixth = ap (λ i. getD (c .args .bytes .now) i 0) (add-assoc (c .args .at) 4 2) in
     let last = ap (λ i. getD (c .args .bytes .now) i 0) (add-assoc (c .args .at) 4 3) in
-    record { little-endian = omega (arith, first, fifth, sixth, last, c .eight-bytes .ensures, get-inside 8 (c .args .at) (c .args .bytes .now) (c .if-within .ensures tt)) }
+    record { little-endian = omega (arith, first, fifth, sixth, last, c .eight-bytes .ensures .little-endian, get-inside 8 (c .args .at) (c .args .bytes .now) (c .if-within .ensures tt .exactly-when-within)) }
 
 pub returns-else-within : need.returns-else-within
-returns-else-within c = record { little-endian = get-outside 8 (c .args .at) (c .args .bytes .now) (c .if-within .ensures tt) }
+returns-else-within c = record { little-endian = get-outside 8 (c .args .at) (c .args .bytes .now) (c .if-within .ensures tt .exactly-when-within) }

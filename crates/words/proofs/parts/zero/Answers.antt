@@ -14,9 +14,9 @@ returns-then-within c =
     let zeroes = replicate {A = ℕ} (c .args .count) 0 in
     let as-many = sym (length-replicate {A = ℕ} (c .args .count) 0) in
     record {
-      later-bytes = c .zero-within .ensures
+      later-bytes = c .zero-within .ensures .later-bytes
           ∙ ap (λ k. putMid (c .args .at) k (c .args .bytes .now) zeroes) as-many
-          ∙ part-written (c .args .at) zeroes (c .args .bytes .now) (c .if-within .ensures tt ∙ ap (λ k. leb (c .args .at + k) (length (c .args .bytes .now))) as-many);
+          ∙ part-written (c .args .at) zeroes (c .args .bytes .now) (c .if-within .ensures tt .exactly-when-within ∙ ap (λ k. leb (c .args .at + k) (length (c .args .bytes .now))) as-many);
     }
 
 pub returns-else-within : need.returns-else-within
