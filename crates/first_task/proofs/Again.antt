@@ -1,6 +1,6 @@
 -- A sector that is written and then read holds the same bytes.
 use mathlib.Core.Path.{_≡_, refl, ap, _∙_}
-use mathlib.Core.Bool.{Bool, true, false, not}
+use mathlib.Core.Bool.{Bool, true, false, not, _&&_}
 use mathlib.Core.List.{List}
 use Prim.Native.Nat.{ℕ}
 use native.Mathlib.Omega.{arith}
@@ -36,7 +36,7 @@ module _ (cell store board : List ℕ) (n : ℕ) (whole : is-cell cell ≡ true)
   was-written = wrote ∙ ap (λ o. kept o store (written store n board)) (none-fits (refused (write n board)) cell store write-carried whole sized)
 
   read-free : carry-refusal 0 (refused (read n)) 512 cell′ store′ ≡ None
-  read-free = none-fits (refused (read n)) cell′ store′ refl (ap (λ k. eqb k 544) same-cell ∙ whole) (ap (λ k. mathlib.Core.Bool._&&_ (leb 512 k) (leb k 4294967296)) same-store ∙ sized)
+  read-free = none-fits (refused (read n)) cell′ store′ refl (ap (λ k. eqb k 544) same-cell ∙ whole) (ap (λ k. leb 512 k && leb k 4294967296) same-store ∙ sized)
 
   pub found : shown ≡ board
   found =

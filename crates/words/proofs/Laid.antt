@@ -25,10 +25,6 @@ pub overwrite-within : (at : ℕ) (new xs : List ℕ) → at + length new ≤ le
 unfolding overwrite
 overwrite-within at new xs h = grind (arith, tells)
 
-pub overwrite-outside : (at : ℕ) (new xs : List ℕ) → length xs < at + length new → overwrite at new xs ≡ xs
-unfolding overwrite
-overwrite-outside at new xs h = grind (arith, tells)
-
 pub length-part : (at k : ℕ) (xs : List ℕ) → at + k ≤ length xs → length (part at k xs) ≡ k
 length-part at k xs h = rw (part-within) (search (needs, places))
 
@@ -92,9 +88,6 @@ overwrite-none at xs = same-lists _ _ (length-overwrite at [] xs) (λ i d h. byt
 pub drop-apart : (n at : ℕ) (new xs : List ℕ) → at + length new ≤ n → drop n (overwrite at new xs) ≡ drop n xs
 drop-apart n at new xs h = same-lists _ _ (length-drop n (overwrite at new xs) ∙ ap (λ l. l - n) (length-overwrite at new xs) ∙ sym (length-drop n xs))
     (λ i d _. getD-drop n (overwrite at new xs) i d ∙ byte-apart at new xs (n + i) d (inr (omega arith)) ∙ sym (getD-drop n xs i d))
-
-pub part-none : (at : ℕ) (xs : List ℕ) → part at 0 xs ≡ []
-part-none at xs = elim (leb-tells (at + 0) (length xs)) [ inl t ↦ part-within at 0 xs (t .1) | inr t ↦ part-outside at 0 xs (t .1) ]
 
 pub byte-same : (at b : ℕ) (xs : List ℕ) (d : ℕ) → at < length xs → getD (overwrite at (b ∷ []) xs) at d ≡ b
 byte-same at b xs d h =

@@ -76,12 +76,6 @@ get-apart k j xs at p n q =
     let l = length-le k n in
     get-over j xs at p (le k n) (elim q [ inl x ↦ inl x | inr x ↦ inr (omega arith) ])
 
-pub part-put : (k p n at : ℕ) (xs : List ℕ) (m : ℕ) → (p + n ≤ at) ⊎ (at + k ≤ p) → part p n (put k xs at m) ≡ part p n xs
-unfolding put
-part-put k p n at xs m q =
-    let l = length-le k m in
-    part-apart p n at (le k m) xs (elim q [ inl x ↦ inl x | inr x ↦ inr (omega arith) ])
-
 pub byte-put : (k : ℕ) (xs : List ℕ) (at n i d : ℕ) → (i < at) ⊎ (at + k ≤ i) → getD (put k xs at n) i d ≡ getD xs i d
 unfolding put
 byte-put k xs at n i d q =
