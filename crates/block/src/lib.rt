@@ -1,4 +1,7 @@
 // The block class: reads, writes and flushes of 512-byte sectors.
+
+#![tactic(auto)]
+
 mod codes;
 mod disks;
 mod interface;

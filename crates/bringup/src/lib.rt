@@ -1,4 +1,7 @@
 // Bring-up of a driver: from a reset device to one that is ready for its queue, one state at a time.
+
+#![tactic(auto)]
+
 mod capacities;
 mod features;
 mod states;

@@ -18,8 +18,8 @@ fn pass_through<Q: Queue, C: Class>(
     cell: &mut [u8],
     store: &mut [u8],
 ) -> Result<Reply, Refusal>
-    requires { refusal_for ops kind queue.old tag (asked request) cell.old store.old ≡ None }
-    ensures plain_service { sound queue.old → Carries sound ops kind tag (asked request.entry) queue.old cell.old store.old result queue.new cell.new store.new }
+    requires { refusal_for Q.ops C.kind queue.old tag (asked request) cell.old store.old ≡ None }
+    ensures plain_service { Q.sound queue.old → Carries Q.sound Q.ops C.kind tag (asked request.entry) queue.old cell.old store.old result queue.new cell.new store.new }
 {
     lay_and_publish::<Q, C>(queue, tag, request, cell)?;
     take_and_serve::<Q, C>(queue, cell, store)?;
@@ -35,8 +35,8 @@ pub fn carry<Q: Queue, C: Class>(
     cell: &mut [u8],
     store: &mut [u8],
 ) -> Result<Reply, Refusal>
-    ensures refused_at_once { RefusedAtOnce (refusal_for ops kind queue.old tag (asked request.entry) cell.old store.old) queue.old cell.old store.old result queue.new cell.new store.new }
-    ensures plain_service { sound queue.old → Carries sound ops kind tag (asked request.entry) queue.old cell.old store.old result queue.new cell.new store.new }
+    ensures refused_at_once { RefusedAtOnce (refusal_for Q.ops C.kind queue.old tag (asked request.entry) cell.old store.old) queue.old cell.old store.old result queue.new cell.new store.new }
+    ensures plain_service { Q.sound queue.old → Carries Q.sound Q.ops C.kind tag (asked request.entry) queue.old cell.old store.old result queue.new cell.new store.new }
 {
     check_carry::<Q, C>(queue, tag, request, cell, store)?;
     pass_through::<Q, C>(queue, tag, request, cell, store)

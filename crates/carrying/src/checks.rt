@@ -10,7 +10,7 @@ use queue::{Queue, Stage};
 
 // A queue is idle where none of its three lists has an entry.
 fn is_idle<Q: Queue>(queue: &Q) -> bool
-    ensures three_empty_lists { result ≡ not (holds_any ops queue.now) }
+    ensures three_empty_lists { result ≡ not (holds_any Q.ops queue.now) }
 {
     queue.entries(Stage::Out) == 0
         && queue.entries(Stage::Held) == 0
@@ -24,7 +24,7 @@ pub(crate) fn check_carry<Q: Queue, C: Class>(
     cell: &[u8],
     store: &[u8],
 ) -> Result<(), Refusal>
-    ensures smallest_that_fits { result ≡ unless (refusal_for ops kind queue.now tag (asked request.entry) cell.now store.now) tt }
+    ensures smallest_that_fits { result ≡ unless (refusal_for Q.ops C.kind queue.now tag (asked request.entry) cell.now store.now) tt }
 {
     if (queue.capacity() as usize) < C::chain_limit() {
         return Err(Refusal::GroupSize);

@@ -16,10 +16,10 @@ pub(crate) fn lay_and_publish<Q: Queue, C: Class>(
     request: Request<'_>,
     cell: &mut [u8],
 ) -> Result<(), Refusal>
-    requires { lay_refusal tag (kind.refuses (asked request)) cell.old ≡ None }
-    ensures answer { result ≡ ops.publish_answer queue.old (kind.entry tag (asked request.entry)) }
-    ensures later_queue { queue.new ≡ ops.published queue.old (kind.entry tag (asked request.entry)) }
-    ensures later_cell { cell.new ≡ kind.lays (asked request.entry) cell.old }
+    requires { lay_refusal tag (C.kind.refuses (asked request)) cell.old ≡ None }
+    ensures answer { result ≡ Q.ops.publish_answer queue.old (C.kind.entry tag (asked request.entry)) }
+    ensures later_queue { queue.new ≡ Q.ops.published queue.old (C.kind.entry tag (asked request.entry)) }
+    ensures later_cell { cell.new ≡ C.kind.lays (asked request.entry) cell.old }
 {
     let entry = C::lay(tag, request, cell)?;
     queue.publish(entry)
@@ -31,7 +31,7 @@ pub(crate) fn take_and_serve<Q: Queue, C: Class>(
     cell: &mut [u8],
     store: &mut [u8],
 ) -> Result<(), Refusal>
-    ensures serves_what_is_taken { ServesWhatIsTaken ops kind queue.old cell.old store.old result queue.new cell.new store.new }
+    ensures serves_what_is_taken { ServesWhatIsTaken Q.ops C.kind queue.old cell.old store.old result queue.new cell.new store.new }
 {
     let Some(entry) = queue.take() else {
         return Err(Refusal::QueueInUse);
@@ -45,8 +45,8 @@ pub(crate) fn collect_reply<Q: Queue, C: Class>(
     queue: &mut Q,
     cell: &[u8],
 ) -> Result<Reply, Refusal>
-    ensures later_queue { queue.new ≡ ops.collected queue.old }
-    ensures tells_what_is_collected { TellsWhatIsCollected ops kind queue.old cell.now result }
+    ensures later_queue { queue.new ≡ Q.ops.collected queue.old }
+    ensures tells_what_is_collected { TellsWhatIsCollected Q.ops C.kind queue.old cell.now result }
 {
     let Some(back) = queue.collect() else {
         return Err(Refusal::QueueInUse);

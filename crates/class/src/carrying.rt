@@ -16,8 +16,8 @@ fn lay_and_serve<C: Class>(
     cell: &mut [u8],
     store: &mut [u8],
 ) -> Result<Reply, Refusal>
-    requires { room_refusal kind.least cell.old store.old ≡ None }
-    ensures plain_service { Carries kind tag (asked request.entry) cell.old store.old result cell.new store.new }
+    requires { room_refusal C.kind.least cell.old store.old ≡ None }
+    ensures plain_service { Carries C.kind tag (asked request.entry) cell.old store.old result cell.new store.new }
 {
     let entry = C::lay(tag, request, cell)?;
     let written = C::serve(&entry, cell, store)?;
@@ -32,7 +32,7 @@ pub fn carry<C: Class>(
     cell: &mut [u8],
     store: &mut [u8],
 ) -> Result<Reply, Refusal>
-    ensures plain_service { Carries kind tag (asked request.entry) cell.old store.old result cell.new store.new }
+    ensures plain_service { Carries C.kind tag (asked request.entry) cell.old store.old result cell.new store.new }
 {
     check_room(C::store_minimum(), cell, store)?;
     lay_and_serve::<C>(tag, request, cell, store)

@@ -1,5 +1,8 @@
 // The class interface: what a class of request means, how a request lies in a cell, and one function that carries a
 // request of any class through.
+
+#![tactic(auto)]
+
 mod carrying;
 mod cells;
 mod checks;

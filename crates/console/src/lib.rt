@@ -1,4 +1,7 @@
 // The console class: text appended to a store that counts what it keeps and what it loses.
+
+#![tactic(auto)]
+
 mod interface;
 mod lines;
 mod stores;

@@ -1,5 +1,8 @@
 // The first task: a board is written to a small disk and read back, and progress is sent to a small console, each request
 // carried through its class and each step printed.
+
+#![tactic(auto)]
+
 ghost use Rattle.std.specs.Prelude.{◌≡◌, IfOk};
 ghost use Rattle.class.specs.Kinds.{asked};
 ghost use Rattle.class.specs.Rules.{carried};
@@ -73,8 +76,8 @@ fn step<C: Class>(
     cell: &mut [u8],
     store: &mut [u8],
 ) -> Result<(), Stop>
-    ensures plain_store { store.new ≡ (carried kind tag (asked request.entry) cell.old store.old).store }
-    ensures plain_data { ShowsTheData kind tag (asked request.entry) cell.old store.old cell.new }
+    ensures plain_store { store.new ≡ (carried C.kind tag (asked request.entry) cell.old store.old).store }
+    ensures plain_data { ShowsTheData C.kind tag (asked request.entry) cell.old store.old cell.new }
 {
     let result = carry::<C>(tag, request, cell, store);
     tell::<C>(rt, name, result, cell)
@@ -129,7 +132,7 @@ fn use_disk(rt: &HostRuntime, disk: &mut [u8]) -> Result<(), Stop> {
         &mut cell,
         disk,
     )?;
-    let zeroes = Block::data(&cell)? == &[0; 512];
+    let zeroes = Block::data(&cell)? == [0; 512].as_slice();
     println!(rt; "only zeroes: {zeroes}")?;
     step::<Block>(rt, "flush", DISK_TAG, bare(FLUSH, 0), &mut cell, disk)?;
     step::<Block>(rt, "type 9", DISK_TAG, bare(9, 0), &mut cell, disk)?;

@@ -1,4 +1,7 @@
 // Odd inputs in tables: each row is a request with the sizes of what is lent, and what has to come of it.
+
+#![tactic(auto)]
+
 #[cfg(test)]
 mod block_rows;
 #[cfg(test)]

@@ -1,4 +1,7 @@
 // Queues over which nothing is carried, as tests.
+
+#![tactic(auto)]
+
 #[cfg(test)]
 mod cases;
 #[cfg(test)]

@@ -27,8 +27,8 @@ pub enum Outcome {
 }
 
 fn make<Q: Queue>(queue: &mut Q, call: Call) -> Outcome
-    ensures answer { result ≡ outcome ops queue.old call }
-    ensures later_queue { queue.new ≡ after ops queue.old call }
+    ensures answer { result ≡ outcome Q.ops queue.old call }
+    ensures later_queue { queue.new ≡ after Q.ops queue.old call }
 {
     match call {
         Call::Publish(entry) => Outcome::Published(queue.publish(entry)),
@@ -48,9 +48,9 @@ fn make<Q: Queue>(queue: &mut Q, call: Call) -> Outcome
 
 // Makes the call. Whatever list of calls is made on a queue, what was published is taken and collected first in, first out.
 pub fn perform<Q: Queue>(queue: &mut Q, call: Call) -> Outcome
-    ensures answer { result ≡ outcome ops queue.old call }
-    ensures later_queue { queue.new ≡ after ops queue.old call }
-    ensures first_in_first_out { sound queue.old → FirstInFirstOut ops queue.old }
+    ensures answer { result ≡ outcome Q.ops queue.old call }
+    ensures later_queue { queue.new ≡ after Q.ops queue.old call }
+    ensures first_in_first_out { Q.sound queue.old → FirstInFirstOut Q.ops queue.old }
 {
     make(queue, call)
 }

@@ -1,4 +1,7 @@
 // The queue interface: what a queue means to both sides, whatever its layout, and what follows of every queue.
+
+#![tactic(auto)]
+
 mod calls;
 mod interface;
 mod values;

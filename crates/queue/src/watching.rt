@@ -17,8 +17,8 @@ fn inbox(side: Side) -> Stage
 }
 
 fn arm_then_count<Q: Queue>(queue: &mut Q, side: Side) -> bool
-    ensures answer { result ≡ work_in ops queue.new side }
-    ensures later_queue { queue.new ≡ ops.armed queue.old side }
+    ensures answer { result ≡ work_in Q.ops queue.new side }
+    ensures later_queue { queue.new ≡ Q.ops.armed queue.old side }
 {
     queue.arm(side);
     queue.entries(inbox(side)) > 0
@@ -27,10 +27,10 @@ fn arm_then_count<Q: Queue>(queue: &mut Q, side: Side) -> bool
 // Arms a side's watch and then looks whether there is work for it. If there is none, the side may sleep: however the other
 // side goes on, once there is something to see, the wake-up question from this moment's position says yes.
 pub fn arm_and_look<Q: Queue>(queue: &mut Q, side: Side) -> bool
-    ensures answer { result ≡ work_in ops queue.new side }
-    ensures later_queue { queue.new ≡ ops.armed queue.old side }
-    ensures sees_work { sound queue.old → Decides result (0 < unseen (ops.means queue.new) side) }
-    ensures no_wake_up_lost { sound queue.old → result ≡ false → NoWakeUpLost ops queue.new side }
+    ensures answer { result ≡ work_in Q.ops queue.new side }
+    ensures later_queue { queue.new ≡ Q.ops.armed queue.old side }
+    ensures sees_work { Q.sound queue.old → Decides result (0 < unseen (Q.ops.means queue.new) side) }
+    ensures no_wake_up_lost { Q.sound queue.old → result ≡ false → NoWakeUpLost Q.ops queue.new side }
 {
     arm_then_count(queue, side)
 }

@@ -23,7 +23,7 @@ fn write_and_read<Q: Queue>(
     cell: &mut [u8],
     disk: &mut [u8],
 ) -> Result<bool, Stop>
-    ensures found_again { IfOk result (λ same. sound queue.old → Ready ops queue.old → FoundAgain cell.old disk.old sector board.now same) }
+    ensures found_again { IfOk result (λ same. Q.sound queue.old → Ready Q.ops queue.old → FoundAgain cell.old disk.old sector board.now same) }
 {
     let write = Request {
         code: WRITE,
@@ -77,7 +77,7 @@ pub(crate) fn use_disk<Q: Queue>(
         disk,
     )?;
     ask(rt, queue, marks)?;
-    let zeroes = Block::data(cell)? == &[0; 512];
+    let zeroes = Block::data(cell)? == [0; 512].as_slice();
     println!(rt; "only zeroes: {zeroes}")?;
     let marks = wake(queue);
     step::<Q, Block>(rt, queue, "flush", DISK_TAG, bare(FLUSH, 0), cell, disk)?;

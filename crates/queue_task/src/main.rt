@@ -1,5 +1,8 @@
 // The first task, once with flags and once with events: a driver is brought up and makes a split queue, a board is written to a
 // small disk and read back, and progress is sent to a small console, each request carried over the queue and each step printed.
+
+#![tactic(auto)]
+
 mod bring_up;
 mod disk;
 mod in_flight;

@@ -39,7 +39,7 @@ pub(crate) fn step<Q: Queue, C: Class>(
     cell: &mut [u8],
     store: &mut [u8],
 ) -> Result<(), Stop>
-    ensures as_carried { sound queue.old → Stepped sound ops kind tag (asked request.entry) queue.old cell.old store.old queue.new cell.new store.new }
+    ensures as_carried { Q.sound queue.old → Stepped Q.sound Q.ops C.kind tag (asked request.entry) queue.old cell.old store.old queue.new cell.new store.new }
 {
     let result = carry::<Q, C>(queue, tag, request, cell, store);
     tell::<C>(rt, name, result, cell)

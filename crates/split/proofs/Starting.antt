@@ -1,5 +1,5 @@
 -- A queue as it is made keeps its meaning, whatever was lent and whatever was agreed.
-use Rattle.std.proofs.Common.{◌≡◌, ℕ, ◌+◌, ◌%◌, ◌≤◌, Bool, true, false, cond, eqb, ltb, List, [], length, replicate, sym, refl, ap, ◌∙◌, subst, arith, Bor}
+use Rattle.std.proofs.Common.{◌≡◌, ℕ, ◌+◌, ◌%◌, ◌≤◌, Bool, true, false, cond, eqb, ltb, List, [], length, replicate, sym, refl, ap, ◌∙◌, subst, arith, MutBor}
 use Rattle.std.proofs.lemmas.List.{length-replicate}
 use Rattle.std.proofs.lemmas.Bool.Decides.{nat_tests}
 use Rattle.words.specs.Numbers.{get}
@@ -95,7 +95,7 @@ by_suits : (xs : List ℕ) (mode k : ℕ) (b : Bool) → suits xs mode k ≡ b �
 by_suits xs mode k true h = alive_start xs mode k h
 by_suits xs mode k false h = idle_leaves (started xs mode k false) _ (dead xs mode k) (nowhere _ refl refl refl refl) refl
 
-pub made_sound : (r : Bor (List ℕ)) (s : Sized) (q : Split) → q ≡ made r s → split_sound q × (split_ops.means q ≡ made_meaning r.now s)
+pub made_sound : (r : MutBor (List ℕ)) (s : Sized) (q : Split) → q ≡ made r s → split_sound q × (split_ops.means q ≡ made_meaning r.now s)
 made_sound r s q e =
     let l = by_suits r.now s.mode s.capacity (suits r.now s.mode s.capacity) refl in
     subst (λ (x : Split). split_sound x × (split_ops.means x ≡ made_meaning r.now s)) (sym e) (l.still_sound, l.meaning)

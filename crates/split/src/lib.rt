@@ -1,5 +1,8 @@
 // The split queue: the queue interface over a region that both sides read, with a descriptor table, an available ring and a
 // used ring.
+
+#![tactic(auto)]
+
 mod chains;
 mod interface;
 mod making;

@@ -1,5 +1,8 @@
 // The split layout as bytes and numbers: descriptors, the available ring, the used ring, the suppression words, and how far
 // each of the four moves has come.
+
+#![tactic(auto)]
+
 mod cursors;
 mod descriptors;
 mod places;

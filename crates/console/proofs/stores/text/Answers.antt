@@ -10,9 +10,9 @@ use Rattle.console.proofs.stores.text.Goals as goal
 
 pub returns : goal.returns
 returns c =
-    let small : kept_in c.args.store.now < 2 ^ 32 = omega (arith, c.get32_kept.ensures.little_endian) in
+    let small : kept_in c.args.store.now < 2 ^ 32 = omega (arith, c.get32-kept.ensures.little_endian) in
     let store = c.args.store.now in
-    let cut = c.text_within.ensures.kept_text ∙ ap (λ k. take (min k (length store - 8)) (drop 8 store)) c.get32_kept.ensures.little_endian ∙ cut_at_end store (kept_in store) in
+    let cut = c.text_within.ensures.kept_text ∙ ap (λ k. take (min k (length store - 8)) (drop 8 store)) c.get32-kept.ensures.little_endian ∙ cut_at_end store (kept_in store) in
     let clear = (accepted (store_refusal 8 c.args.store.now) c.in_ok-check_store.field-0 tt c.in_ok-check_store.ensures.smallest_that_fits).0 in
     record { kept_text = ap Ok cut ∙ ap (λ o. unless o (text_in c.args.store.now)) (sym clear); grows_by_what_fits = λ line sound. grows c.args.store.now line small sound }
 
