@@ -1,5 +1,5 @@
 -- What a call's answer says of its refusals.
-use Rattle.std.proofs.Common.{◌≡◌, ℕ, Some, None, Ok, Err, Option, arith}
+use Rattle.std.proofs.Common.{◌≡◌, ℕ, Some, None, Err, Option, arith}
 use Rattle.entries.specs.declared.refusals.Refusal.{Refusal}
 use Rattle.entries.specs.Refusals.{unless}
 

@@ -1,5 +1,5 @@
 -- What the types of its fields say of an entry: three places, and numbers that fit. Assumes nothing.
-use Rattle.std.specs.Prelude.{◌≡◌, ℕ, ◌^◌, ◌<◌, length}
+use Rattle.std.specs.Prelude.{◌≡◌, ◌^◌, ◌<◌, length}
 use Rattle.entries.specs.declared.shapes.Segment.{Segment}
 use Rattle.entries.specs.declared.shapes.Entry.{Entry}
 use Rattle.entries.specs.Legality.{place}

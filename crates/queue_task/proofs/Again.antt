@@ -1,11 +1,10 @@
 -- A sector that is written and then read over a queue holds the same bytes.
-use Rattle.std.proofs.Common.{◌≡◌, ℕ, ◌≤◌, Bool, true, false, cond, not, ◌&&◌, ◌||◌, eqb, ltb, leb, List, length, is_ok, None, Ok, Option, Result, sym, refl, ap, ◌∙◌, subst, arith}
-use Rattle.std.proofs.lemmas.Bool.{cond-false, le-ltb}
+use Rattle.std.proofs.Common.{◌≡◌, ℕ, ◌≤◌, Bool, true, false, not, ◌&&◌, eqb, leb, List, length, is_ok, None, Ok, Option, sym, refl, ap, ◌∙◌, subst}
+use Rattle.std.proofs.lemmas.Bool.{le-ltb}
 use Rattle.entries.specs.declared.refusals.Refusal.{Refusal}
 use Rattle.entries.specs.declared.refusals.Refusal.TheVariants.{GroupSize, CellSize, StoreSize, BadRequest, BadEntry, QueueInUse}
 use Rattle.entries.specs.declared.shapes.Entry.{Entry}
-use Rattle.entries.specs.Refusals.{refuse, unless, kept}
-use Rattle.class.specs.declared.requests.Reply.{Reply}
+use Rattle.entries.specs.Refusals.{refuse, kept}
 use Rattle.class.specs.Cells.{is_cell}
 use Rattle.class.specs.Kinds.{Asked, Answer}
 use Rattle.class.specs.Refusals.{is_store, read_refusal}
@@ -21,9 +20,8 @@ use Rattle.queue.specs.declared.values.Stage.TheVariants.{Out, Held, Back}
 use Rattle.queue.specs.Meaning.{Meaning}
 use Rattle.queue.specs.Rules.{entries_of}
 use Rattle.queue.specs.Laws.{Ops, Laws, Leaves}
-use Rattle.carrying.specs.Refusals.{any, holds_any, refusal_for}
+use Rattle.carrying.specs.Refusals.{any, refusal_for}
 use Rattle.carrying.specs.Rules.{carried, moved_on}
-use Rattle.carrying.specs.Laws.{Carries}
 use Rattle.queue_task.specs.Steps.{Stepped, Ready}
 
 passes : (n : Refusal) (b : Bool) (o : Option Refusal) → b ≡ false → o ≡ None → refuse n b o ≡ None

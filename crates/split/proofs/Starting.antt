@@ -13,12 +13,12 @@ use Rattle.queue.specs.declared.values.Side.TheVariants.{Driver, Device}
 use Rattle.queue.specs.Meaning.{with_watch}
 use Rattle.split_ring.specs.Cursors.{start}
 use Rattle.split_ring.specs.Slots.{region_size, index_place, used_index_place, watch_place}
-use Rattle.split_ring.specs.Ring.{Ring, alive, watch_by, meaning, nothing}
+use Rattle.split_ring.specs.Ring.{Ring, alive, watch_by, nothing}
 use Rattle.split_ring.specs.Sound.{Shape, Idle}
 use Rattle.split_ring.proofs.Fresh.{fresh_holds}
 use Rattle.split_ring.proofs.Alive.{LeavesRing, live_leaves, idle_leaves, both}
 use Rattle.split.specs.declared.state.Split.{Split}
-use Rattle.split.specs.State.{ring, split_sound, split_ops}
+use Rattle.split.specs.State.{split_sound, split_ops}
 use Rattle.split.specs.Making.{split_map, for_split, suits, made_bytes, made, fresh, made_meaning}
 
 -- the ring of a made queue, by whether what was lent and agreed suits

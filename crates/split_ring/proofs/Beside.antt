@@ -6,7 +6,6 @@ use Rattle.entries.specs.Typed.{Typed, TypedSegment}
 use Rattle.queue.specs.declared.values.Side.{Side}
 use Rattle.queue.specs.declared.values.Side.TheVariants.{Driver, Device}
 use Rattle.split_ring.specs.Slots.{driver_area, index_place, used_event_place, used_index_place, available_event_place, region_size, watch_place}
-use Rattle.split_ring.specs.Ring.{first}
 
 -- where the suppression words lie: beside the rings and their indexes
 pub record Aside (k p : ℕ) : Type 0 where

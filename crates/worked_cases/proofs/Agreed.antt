@@ -1,5 +1,5 @@
 -- Every row of the table answers as the rule does.
-use Rattle.std.proofs.Common.{◌≡◌, ℕ, zero, suc, Bool, true, false, List, [], ◌∷◌, Some, None, Option, sym, refl, ◌∙◌, subst, arith}
+use Rattle.std.proofs.Common.{◌≡◌, ℕ, zero, suc, Bool, true, false, List, [], ◌∷◌, Option, sym, refl, ◌∙◌, subst, arith}
 use Rattle.std.proofs.lemmas.Bool.{and_parts}
 use Rattle.worked_cases.specs.declared.table.Case.{Case}
 use Rattle.worked_cases.specs.Cases.{table, row_at, ruled, AsRuled, agree, all_agree}

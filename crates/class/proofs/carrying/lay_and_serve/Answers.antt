@@ -1,4 +1,4 @@
-use Rattle.std.proofs.Common.{◌≡◌, ℕ, true, List, get_or, sym, refl, ap, ◌∙◌, rules}
+use Rattle.std.proofs.Common.{◌≡◌, ℕ, true, List, get_or, refl, ap, rules}
 use Rattle.std.proofs.lemmas.Bool.{both_ways}
 use Rattle.class.specs.Kinds.{asked, Sized}
 use Rattle.class.proofs.Carries.{Chain, same_reply, same_data, same_store, same_cell, rest_stays}

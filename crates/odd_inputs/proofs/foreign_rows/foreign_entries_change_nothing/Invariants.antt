@@ -3,4 +3,4 @@ use Rattle.std.proofs.Common.{◌≡◌, length}
 use Rattle.odd_inputs.proofs.foreign_rows.foreign_entries_change_nothing.Given as goal
 
 abbrev pub invariant-loop-row : goal.invariant-loop-row
-invariant-loop-row l = (length l.cell ≡ 544) × (length l.store ≡ 1024)
+invariant-loop-row g l = (length l.cell ≡ 544) × (length l.store ≡ 1024)

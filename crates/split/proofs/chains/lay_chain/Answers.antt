@@ -1,4 +1,4 @@
-use Rattle.std.proofs.Common.{◌≡◌, sym, refl, ap, ◌∙◌, add-one, rules}
+use Rattle.std.proofs.Common.{refl, add-one, rules}
 use Rattle.split_ring.specs.Chains.{laid}
 use Rattle.split.proofs.chains.lay_chain.Goals as goal
 

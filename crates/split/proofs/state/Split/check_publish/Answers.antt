@@ -1,4 +1,4 @@
-use Rattle.std.proofs.Common.{◌≡◌, ℕ, Bool, not, ltb, None, ap, ◌∙◌, ap₂}
+use Rattle.std.proofs.Common.{◌≡◌, ℕ, Bool, not, ltb, None, ◌∙◌, ap₂}
 use Rattle.entries.specs.declared.refusals.Refusal.TheVariants.{BadEntry, NoRoom}
 use Rattle.entries.specs.Refusals.{refuse, unless}
 use Rattle.split_ring.specs.Ring.{publish_refused}

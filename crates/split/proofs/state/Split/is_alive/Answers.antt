@@ -1,6 +1,5 @@
-use Rattle.std.proofs.Common.{◌≡◌, true, sym, ap, ◌∙◌, rules}
+use Rattle.std.proofs.Common.{sym, ◌∙◌}
 use Rattle.split_ring.specs.Ring.{alive}
-use Rattle.split.specs.State.{ring}
 use Rattle.split.proofs.Serving.{served}
 use Rattle.split.proofs.state.Split.is_alive.Goals as goal
 
