@@ -1,10 +1,7 @@
 // The console class, as the class interface asks for it.
 ghost use Rattle.console.specs.Class.{console};
-ghost use Rattle.std.proofs.Common.{ap, arith};
-ghost use Rattle.std.specs.Prelude.{ℕ, List, slice_index, refl};
-ghost use Rattle.std.proofs.Math.ListN;
-ghost use Rattle.words.proofs.Laid.{length-overwrite};
-ghost use Rattle.console.specs.Holds.{legal_entry, entry_typed, read_back, lays_only_named, cell_stays, store_length};
+ghost use Rattle.std.specs.Prelude.{refl};
+ghost use Rattle.console.specs.Holds.{legal_entry, entry_typed, within_longest, read_back, lays_length, serves_length, store_length, lays_only_named, byte_stays};
 
 use crate::lines::{entry_for, is_refused, is_sendable};
 use crate::stores;
@@ -32,15 +29,15 @@ impl Class for Console {
       legal_entry = legal_entry;
       entry_typed = entry_typed;
       own_tag = λ t r. refl;
-      within_longest = λ t r. omega arith;
+      within_longest = within_longest;
       reads_back = λ t r cell fit kept whole. read_back t r cell kept whole;
       shows_status = λ r cell store fit kept whole. refl;
       shows_data = λ r cell store fit kept whole. refl;
-      lays_length = λ r cell. length-overwrite 16 r.payload cell;
-      serves_length = λ e cell store. ap (λ (x : List ℕ). ListN.length x) (cell_stays e cell store);
+      lays_length = lays_length;
+      serves_length = serves_length;
       store_length = store_length;
       lays_only_named = λ t r cell kept i h. lays_only_named t r cell i h;
-      serves_only_writable = λ e cell store i h. ap (λ (x : List ℕ). slice_index x i) (cell_stays e cell store);
+      serves_only_writable = λ e cell store i h. byte_stays e cell store i;
     } };
 
     fn chain_limit() -> usize {

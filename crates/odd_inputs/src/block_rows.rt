@@ -1,5 +1,6 @@
 // Block requests: every code, sectors at the edges, odd stores, and each refusal with what could mask it.
 use crate::cases::*;
+use block::Block;
 use std::test::Fail;
 
 // the largest code, a sector whose offset would not fit 64 bits, and the last sector that can be named
@@ -109,7 +110,7 @@ fn odd_block_requests(rt: HostRuntime) -> Result<(), Fail> {
             place,
             payload,
         };
-        let (outcome, _) = run::<block::Block>(case).ok_or("a row that is too large")?;
+        let (outcome, _) = run::<Block>(case).ok_or("a row that is too large")?;
         let expected = Outcome {
             refused,
             status,

@@ -1,5 +1,6 @@
 // Console lines: lengths at the edges, kept and lost at every edge, small stores, and each refusal with what could mask it.
 use crate::cases::*;
+use console::Console;
 use std::test::Fail;
 
 // the largest count, and the last place that can be named
@@ -114,7 +115,7 @@ fn odd_console_lines(rt: HostRuntime) -> Result<(), Fail> {
             place,
             payload,
         };
-        let (outcome, counts) = run::<console::Console>(case).ok_or("a row that is too large")?;
+        let (outcome, counts) = run::<Console>(case).ok_or("a row that is too large")?;
         let expected = Outcome {
             refused,
             status: 0,

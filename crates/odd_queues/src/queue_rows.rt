@@ -1,5 +1,6 @@
 // Queues that carry nothing: one without room for the longest chain, and one that is in use.
 use crate::cases::*;
+use block::Block;
 use class::{CELL_SIZE, Request};
 use entries::{Entry, Segment};
 use queue::Queue;
@@ -21,7 +22,7 @@ const BAD: Request<'static> = Request {
 fn told<Q: Queue>(queue: &mut Q, request: Request<'_>) -> (u8, bool) {
     let mut cell = [IN_CELL; CELL_SIZE];
     let mut store = [IN_STORE; 1024];
-    let (refused, _, _, _) = answer::<Q, block::Block>(queue, 0, request, &mut cell, &mut store);
+    let (refused, _, _, _) = answer::<Q, Block>(queue, 0, request, &mut cell, &mut store);
     (
         refused,
         cell == [IN_CELL; CELL_SIZE] && store == [IN_STORE; 1024],
