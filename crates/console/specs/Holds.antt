@@ -56,7 +56,7 @@ lays_only_named t r cell i h = byte_apart 16 r.payload cell i 0 (away (cases_lt 
     away (inr l) (inl k) = absurd (h (0, omega arith, (omega arith, omega arith)))
 
 -- serving leaves the cell, whatever the entry
-cell_stays : (e : Entry) (cell store : List ℕ) → (effect console e cell store).cell ≡ cell
+pub cell_stays : (e : Entry) (cell store : List ℕ) → (effect console e cell store).cell ≡ cell
 cell_stays e cell store = by_stated (λ x. x.cell ≡ cell) console (sendable (place e 0).length && same e (entry_for e.tag (place e 0).length)) (line_in (place e 0).length cell) cell store refl (λ _. refl)
 
 pub serves_length : (e : Entry) (cell store : List ℕ) → length (effect console e cell store).cell ≡ length cell

@@ -19,7 +19,7 @@ none_fits : (bad : Bool) (cell store : List ℕ) → bad ≡ false → is_cell c
 none_fits bad cell store b c s = grind (arith, nat_tests)
 
 module _ (cell store board : List ℕ) (n : ℕ) (whole : is_cell cell ≡ true) (sized : is_store 512 store ≡ true) (there : has_sector store n ≡ true) (long : length board ≡ 512)
-    (cell' store' after shown : List ℕ) (wrote : store' ≡ (carried block 0 (write n board) cell store).store) (same_cell : length cell' ≡ length cell) (same_Store : length store' ≡ length store)
+    (cell' store' after shown : List ℕ) (wrote : store' ≡ (carried block 0 (write n board) cell store).store) (same_cell : length cell' ≡ length cell) (same_store : length store' ≡ length store)
     (showed : ShowsTheData block 0 (read n) cell' store' after) (given : Ok shown ≡ data_of block after) where
   write_carried : refused (write n board) ≡ false
   write_carried = ap (λ k. not (eqb k 512)) long
@@ -28,7 +28,7 @@ module _ (cell store board : List ℕ) (n : ℕ) (whole : is_cell cell ≡ true)
   was_written = wrote ∙ ap (λ o. kept o store (written store n board)) (none_fits (refused (write n board)) cell store write_carried whole sized)
 
   read_free : carry_refusal 0 (refused (read n)) 512 cell' store' ≡ None
-  read_free = none_fits (refused (read n)) cell' store' refl (ap (λ k. eqb k 544) same_cell ∙ whole) (ap (λ k. leb 512 k && leb k 4294967296) same_Store ∙ sized)
+  read_free = none_fits (refused (read n)) cell' store' refl (ap (λ k. eqb k 544) same_cell ∙ whole) (ap (λ k. leb 512 k && leb k 4294967296) same_store ∙ sized)
 
   pub found : shown ≡ board
   found =
