@@ -110,7 +110,8 @@ fn odd_block_requests(rt: HostRuntime) -> Result<(), Fail> {
             place,
             payload,
         };
-        let (outcome, _) = run::<Block>(case).ok_or("a row that is too large")?;
+        let (by_hand, _) = run::<ByHand, Block>(case).ok_or("a row that is too large")?;
+        let (over_queue, _) = run::<OverQueue, Block>(case).ok_or("no queue")?;
         let expected = Outcome {
             refused,
             status,
@@ -118,7 +119,8 @@ fn odd_block_requests(rt: HostRuntime) -> Result<(), Fail> {
             data: (length, first),
             changed: (touched, stored),
         };
-        assert_eq!(rt; outcome, expected);
+        assert_eq!(rt; by_hand, expected);
+        assert_eq!(rt; over_queue, expected);
     }
     Ok(())
 }

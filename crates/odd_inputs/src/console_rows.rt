@@ -115,7 +115,8 @@ fn odd_console_lines(rt: HostRuntime) -> Result<(), Fail> {
             place,
             payload,
         };
-        let (outcome, counts) = run::<Console>(case).ok_or("a row that is too large")?;
+        let (by_hand, counts) = run::<ByHand, Console>(case).ok_or("a row that is too large")?;
+        let (over_queue, counts_too) = run::<OverQueue, Console>(case).ok_or("no queue")?;
         let expected = Outcome {
             refused,
             status: 0,
@@ -123,8 +124,10 @@ fn odd_console_lines(rt: HostRuntime) -> Result<(), Fail> {
             data: (0, 0),
             changed: (touched, stored),
         };
-        assert_eq!(rt; outcome, expected);
+        assert_eq!(rt; by_hand, expected);
+        assert_eq!(rt; over_queue, expected);
         assert_eq!(rt; counts, (kept_then, lost_then));
+        assert_eq!(rt; counts_too, (kept_then, lost_then));
     }
     Ok(())
 }

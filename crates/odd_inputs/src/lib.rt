@@ -10,3 +10,5 @@ mod cases;
 mod console_rows;
 #[cfg(test)]
 mod foreign_rows;
+#[cfg(test)]
+mod queue_rows;

@@ -53,7 +53,7 @@ module _ {Q : Type 0} (sound : Q → Type 0) (ops : Ops Q) (laws : Laws sound op
 
   module _ (q q₁ q₂ : Q) (s : sound q) (y : Ready ops q) (cell store board : List ℕ) (n : ℕ)
       (whole : is_cell cell ≡ true) (sized : is_store 512 store ≡ true) (there : has_sector store n ≡ true) (long : length board ≡ 512)
-      (cell₁ store₁ cell₂ store₂ shown : List ℕ) (same_cell : length cell₁ ≡ length cell) (same_Store : length store₁ ≡ length store)
+      (cell₁ store₁ cell₂ store₂ shown : List ℕ) (same_cell : length cell₁ ≡ length cell) (same_store : length store₁ ≡ length store)
       (wrote : Stepped sound ops block 0 (write n board) q cell store q₁ cell₁ store₁)
       (fetched : sound q₁ → Stepped sound ops block 0 (read n) q₁ cell₁ store₁ q₂ cell₂ store₂)
       (given : Ok shown ≡ data_of block cell₂) where
@@ -70,7 +70,7 @@ module _ {Q : Type 0} (sound : Q → Type 0) (ops : Ops Q) (laws : Laws sound op
     was_written = wrote.1.plain_store ∙ ap (λ o. (carried o block (write n board) cell store).store) write_free
 
     read_free : refusal_for ops block q₁ 0 (read n) cell₁ store₁ ≡ None
-    read_free = none_fits q₁ (read n) cell₁ store₁ (ready_again q q₁ _ s y passed_on) refl (ap (λ k. eqb k 544) same_cell ∙ whole) (ap (λ k. leb 512 k && leb k 4294967296) same_Store ∙ sized)
+    read_free = none_fits q₁ (read n) cell₁ store₁ (ready_again q q₁ _ s y passed_on) refl (ap (λ k. eqb k 544) same_cell ∙ whole) (ap (λ k. leb 512 k && leb k 4294967296) same_store ∙ sized)
 
     second : Stepped sound ops block 0 (read n) q₁ cell₁ store₁ q₂ cell₂ store₂
     second = fetched passed_on.still_sound

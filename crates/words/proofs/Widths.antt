@@ -43,10 +43,18 @@ taken_each (suc k) at i xs h =
     ∙ ap (λ j. get_or xs (at + i) 0 ∷ take k (drop j xs)) e
     ∙ ap (λ (ys : List ℕ). get_or xs (at + i) 0 ∷ ys) (taken_each k at (i + 1) xs (omega arith))
 
--- the code's read of a byte and k more, where the test said that they lie within
-pub get_inside : (k at : ℕ) (xs : List ℕ) → true ≡ leb (at + suc k) (length xs) → get (suc k) xs at ≡ value (get_or xs at 0 ∷ each k at 1 xs)
+-- the code's read of k bytes, where the test said that they lie within
+pub get_inside : (k at : ℕ) (xs : List ℕ) → true ≡ leb (at + k) (length xs) → get k xs at ≡ value (each k at 0 xs)
 unfolding get
 get_inside k at xs h =
+    let w : at + k ≤ length xs = grind (arith, nat_tests) in
+    let z : at ≡ at + 0 = omega arith in
+    ap value (part_within at k xs w ∙ ap (λ j. take k (drop j xs)) z ∙ taken_each k at 0 xs (omega arith))
+
+-- the same of a byte and k more, with the first byte at its own place
+pub get_from_first : (k at : ℕ) (xs : List ℕ) → true ≡ leb (at + suc k) (length xs) → get (suc k) xs at ≡ value (get_or xs at 0 ∷ each k at 1 xs)
+unfolding get
+get_from_first k at xs h =
     let w : at + suc k ≤ length xs = grind (arith, nat_tests) in
     ap value (part_within at (suc k) xs w ∙ ap (take (suc k)) (drop_more xs at 0 (omega arith)) ∙ ap (λ (ys : List ℕ). get_or xs at 0 ∷ ys) (taken_each k at 1 xs (omega arith)))
 

@@ -1,6 +1,7 @@
 // Queues that carry nothing: one without room for the longest chain, and one that is in use.
 use crate::cases::*;
 use block::Block;
+use carrying::carry;
 use class::{CELL_SIZE, Request};
 use entries::{Entry, Segment};
 use queue::Queue;
@@ -22,7 +23,10 @@ const BAD: Request<'static> = Request {
 fn told<Q: Queue>(queue: &mut Q, request: Request<'_>) -> (u8, bool) {
     let mut cell = [IN_CELL; CELL_SIZE];
     let mut store = [IN_STORE; 1024];
-    let (refused, _, _, _) = answer::<Q, Block>(queue, 0, request, &mut cell, &mut store);
+    let refused = match carry::<Q, Block>(queue, 0, request, &mut cell, &mut store) {
+        Ok(_) => 0,
+        Err(refusal) => refusal.number(),
+    };
     (
         refused,
         cell == [IN_CELL; CELL_SIZE] && store == [IN_STORE; 1024],
