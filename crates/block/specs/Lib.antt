@@ -1,4 +1,5 @@
 pub mod Requests
+pub mod Codes
 pub mod Layout
 pub mod Service
 pub mod Disk

@@ -1,6 +1,7 @@
 // The block class, as the class interface asks for it.
 ghost use Rattle.block.specs.Class.{block};
-ghost use Rattle.std.proofs.Common.{◌∙◌};
+ghost use Rattle.std.proofs.Common.{◌∙◌, refl};
+ghost use Rattle.block.specs.Requests.{sector_size};
 ghost use Rattle.block.specs.Layout.{lays};
 ghost use Rattle.block.specs.Service.{plain};
 ghost use Rattle.block.specs.Shapes.{legal_entry, entry_typed, own_tag, within_longest};
@@ -8,12 +9,12 @@ ghost use Rattle.block.specs.Header.{read_back, lays_length};
 ghost use Rattle.block.specs.Shown.{status_shown, data_shown};
 ghost use Rattle.block.specs.Touched.{lays_only_named, serves_only_writable, serves_length, store_length};
 
-use crate::codes::{READ, SECTOR_SIZE, is_refused};
+use crate::codes::{Operation, SECTOR_SIZE, is_refused};
 use crate::laying::{TYPE_AT, entry_for, lay_cell};
 use crate::serving::serve_cell;
 use class::{Class, DATA_AT, DATA_SIZE, Request, STATUS_AT, check_lay, check_read, check_serve};
 use entries::{Entry, Refusal};
-use words::{get32, part};
+use words::{get, part};
 
 #[derive(Clone, Copy)]
 pub struct Block;
@@ -23,7 +24,15 @@ impl Class for Block {
 
     const LEAST_STORE: usize = SECTOR_SIZE;
 
+    ghost LONGEST_CHAIN = { 3 };
+
+    ghost LEAST_STORE = { sector_size };
+
     ghost kind = { block };
+
+    ghost longest_as_meant = { refl };
+
+    ghost least_as_meant = { refl };
 
     ghost lawful = { record {
       legal_entry = λ t r h _. legal_entry t r.code h;
@@ -40,14 +49,6 @@ impl Class for Block {
       serves_only_writable = serves_only_writable;
     } };
 
-    fn chain_limit() -> usize {
-        Self::LONGEST_CHAIN
-    }
-
-    fn store_minimum() -> usize {
-        Self::LEAST_STORE
-    }
-
     fn refuses(request: Request<'_>) -> bool {
         is_refused(request)
     }
@@ -60,7 +61,7 @@ impl Class for Block {
 
     fn serve(entry: &Entry, cell: &mut [u8], store: &mut [u8]) -> Result<u32, Refusal> {
         check_serve(entry.tag, Self::LEAST_STORE, cell, store)?;
-        let stated = entry_for(entry.tag, get32(cell, TYPE_AT));
+        let stated = entry_for(entry.tag, get(cell, TYPE_AT));
         if !entry.is_same(&stated) {
             return Ok(0);
         }
@@ -74,7 +75,7 @@ impl Class for Block {
 
     fn data<'c>(cell: &'c [u8]) -> Result<&'c [u8], Refusal> {
         check_read(cell)?;
-        if get32(cell, TYPE_AT) == READ {
+        if Operation::try_from(get::<u32>(cell, TYPE_AT)) == Ok(Operation::Read) {
             Ok(part(cell, DATA_AT, DATA_SIZE))
         } else {
             Ok(&cell[0..0])

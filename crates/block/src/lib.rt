@@ -8,6 +8,6 @@ mod interface;
 mod laying;
 mod serving;
 
-pub use codes::{FLUSH, IO_ERROR, OK, READ, SECTOR_SIZE, UNSUPPORTED, WRITE};
+pub use codes::{Operation, SECTOR_SIZE, Status};
 pub use disks::sectors;
 pub use interface::Block;

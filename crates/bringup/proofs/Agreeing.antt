@@ -1,9 +1,11 @@
 -- The test of wanted features says what it means, and the mode is the two bits read as a number.
-use Rattle.std.proofs.Common.{◌≡◌, ℕ, ◌+◌, ◌-◌, ◌*◌, ◌/◌, ◌%◌, ◌^◌, ◌<◌, ◌≤◌, Bool, cond, not, ◌&&◌, ◌||◌, eqb, ◌⊎◌, Decides, refl, ap, inl, inr, mul-zero, mul-one, arith, pow_mono}
+use Rattle.std.proofs.Common.{◌≡◌, ℕ, ◌+◌, ◌*◌, ◌/◌, ◌^◌, ◌<◌, ◌≤◌, Bool, not, ◌&&◌, ◌||◌, eqb, ◌⊎◌, Decides, refl, inl, inr, arith, pow_mono}
 use native.Mathlib.Nat.{div-eq_of_lt}
-use Rattle.std.proofs.lemmas.Bool.{cases_lt, cases_Bool}
-use Rattle.std.proofs.lemmas.Bool.Decides.{Decides-and, Decides-like, Decides-at, nat_tests}
+use Rattle.std.proofs.lemmas.Bool.{cases_lt}
+use Rattle.std.proofs.lemmas.Grind.{common_steps}
+use Rattle.std.proofs.lemmas.Bool.Decides.{Decides-and, Decides-like, nat_tests}
 use Rattle.bringup.specs.Features.{bit, event_bit, version_bit, packed_bit, all_spoken, has_all, agreeable, Agreeable, mode_of}
+use Rattle.bringup.specs.Modes.{mode_chosen, mode_number}
 use Rattle.bringup.proofs.Bits.{has_decides, bit_decides, bit_off, each_below}
 
 -- a bit that this engine speaks, and a test that every bit of the mask is one
@@ -20,15 +22,13 @@ spoken_high : (i : ℕ) → 35 ≤ i → bit i all_spoken ≡ 1 → Spoken i
 spoken_high i h one =
     let p : 2 ^ 35 ≤ 2 ^ i = pow_mono h in
     let z : all_spoken / 2 ^ i ≡ 0 = div-eq_of_lt (omega arith) in
-    absurd (omega (arith, ap (λ (x : ℕ). x % 2) z))
+    grind arith
 
 bits_spoken : (i : ℕ) → bit i all_spoken ≡ 1 → Spoken i
 bits_spoken i one = elim (cases_lt i 35) [ inl h ↦ spoken_low i h one | inr h ↦ spoken_high i h one ]
 
 spoken_bits : (i : ℕ) → Spoken i → bit i all_spoken ≡ 1
-spoken_bits i (inl e) = rw e
-spoken_bits i (inr (inl e)) = rw e
-spoken_bits i (inr (inr e)) = rw e
+spoken_bits i h = grind arith
 
 -- what the three tests say one by one
 abbrev Parts : ℕ → ℕ → Type 0
@@ -46,13 +46,9 @@ agreeable_decides offered wanted =
     back : Agreeable offered wanted → Parts offered wanted
     back a = (a.each_offered, (λ i one. spoken_bits i (a.each_spoken i one), a.version_wanted))
 
--- a bit is 1 where the test of its mask holds, and else 0
-bit_cond : (i n a : ℕ) → 2 ^ (1 + i) - 2 ^ i ≡ 2 ^ i → cond (has_all n (2 ^ i)) a 0 ≡ a * bit i n
-bit_cond i n a e = elim (cases_Bool (has_all n (2 ^ i))) [ inl t ↦ rw (t, (bit_decides i n e).0 t, mul-one) | inr t ↦ rw (t, bit_off i n e t, mul-zero) ]
-
 pub mode_bits : (f : ℕ) → mode_of f ≡ 2 * bit packed_bit f + bit event_bit f
-mode_bits f = omega (arith, bit_cond packed_bit f 2 refl, bit_cond event_bit f 1 refl)
+mode_bits f = grind (arith, common_steps, bit_decides packed_bit f refl, bit_decides event_bit f refl, bit_off packed_bit f refl, bit_off event_bit f refl)
 
--- an answer that is the test's says what the test says
-pub agreeable_told : (offered wanted : ℕ) (r : Bool) → r ≡ agreeable offered wanted → Decides r (Agreeable offered wanted)
-agreeable_told offered wanted r h = Decides-at r (agreeable offered wanted) h (agreeable_decides offered wanted)
+-- the mode that is chosen is that number
+pub number_chosen : (f : ℕ) → mode_number (mode_chosen f) ≡ mode_of f
+number_chosen f = grind (arith, common_steps)

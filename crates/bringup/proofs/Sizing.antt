@@ -1,15 +1,13 @@
 -- The tests of capacities say what they mean, and what a layout may rely on where one holds.
-use Rattle.std.proofs.Common.{◌≡◌, ℕ, zero, suc, ◌%◌, ◌^◌, ◌<◌, ◌≤◌, Bool, true, false, cond, not, ◌||◌, eqb, leb, ◌⊎◌, Ok, Err, Decides, sym, refl, ap, ◌∙◌, inl, inr, arith}
-use Rattle.std.proofs.lemmas.Bool.{cases_Bool, cond-true, cond-false}
-use Rattle.std.proofs.lemmas.Bool.Decides.{Decides-below_or, Decides-eqb, Decides-like, Decides-at, nat_tests}
-use Rattle.entries.specs.declared.refusals.Refusal.{Refusal}
-use Rattle.entries.specs.declared.refusals.Refusal.TheVariants.{Capacity}
+use Rattle.std.proofs.Common.{◌≡◌, ℕ, zero, suc, ◌%◌, ◌^◌, ◌<◌, ◌≤◌, Bool, true, false, not, ◌||◌, eqb, leb, Ok, Decides, refl, arith}
+use Rattle.std.proofs.lemmas.Grind.{common_steps}
+use Rattle.std.proofs.lemmas.Bool.Decides.{Decides-below_or, Decides-eqb, nat_tests}
 use Rattle.bringup.specs.declared.states.Agreed.{Agreed}
 use Rattle.bringup.specs.declared.states.Sized.{Sized}
-use Rattle.bringup.specs.Features.{mode_of, bit, packed_bit, has_all}
+use Rattle.bringup.specs.Features.{packed_bit}
+use Rattle.bringup.specs.Modes.{mode_number}
 use Rattle.bringup.specs.Capacities.{largest, is_split_size, is_packed_size, fitting, SplitSize, PackedSize, Fitting}
 use Rattle.bringup.specs.Steps.{sizing}
-use Rattle.bringup.proofs.Agreeing.{mode_bits}
 use Rattle.bringup.proofs.Bits.{bit_decides, bit_off, each_below}
 
 -- a power of two with an exponent below n, found by trying each
@@ -52,73 +50,30 @@ pub split_decides : (k : ℕ) → Decides (is_split_size k) (SplitSize k)
 split_decides k = (split_means k, means_split k)
 
 pub packed_decides : (k : ℕ) → Decides (is_packed_size k) (PackedSize k)
-packed_decides k = (λ h. (grind (arith, nat_tests), grind (arith, nat_tests)), λ h. grind (arith, nat_tests))
+packed_decides k = grind (arith, nat_tests)
 
 -- what a layout relies on
 pub split_size : (k : ℕ) → is_split_size k ≡ true → (4 ≤ k) × (k ≤ 1024) × (65536 % k ≡ 0)
-split_size k h = (grind (arith, nat_tests), grind (arith, nat_tests), grind (arith, nat_tests))
+split_size k h = grind (arith, nat_tests)
 
 pub packed_size : (k : ℕ) → is_packed_size k ≡ true → (3 ≤ k) × (k ≤ 1024)
 packed_size k h = (packed_decides k).0 h
 
+fitting_means : (f k : ℕ) → fitting f k ≡ true → Fitting f k
+fitting_means f k h = record {
+  of_split = λ z. grind (arith, common_steps, split_decides, bit_decides packed_bit f refl);
+  of_packed = λ o. grind (arith, common_steps, packed_decides, bit_decides packed_bit f refl);
+}
+
+means_fitting : (f k : ℕ) → Fitting f k → fitting f k ≡ true
+means_fitting f k w = grind (arith, common_steps, split_decides, packed_decides, bit_decides packed_bit f refl, bit_off packed_bit f refl, w.of_split, w.of_packed)
+
 pub fitting_decides : (f k : ℕ) → Decides (fitting f k) (Fitting f k)
-fitting_decides f k = elim (cases_Bool (has_all f (2 ^ packed_bit))) [ inl t ↦ packed t | inr t ↦ split t ]
-  where
-    packed : has_all f (2 ^ packed_bit) ≡ true → Decides (fitting f k) (Fitting f k)
-    packed t =
-        let one : bit packed_bit f ≡ 1 = (bit_decides packed_bit f refl).0 t in
-        Decides-at (fitting f k) (is_packed_size k) (cond-true (has_all f (2 ^ packed_bit)) (is_packed_size k) (is_split_size k) t)
-        (Decides-like (is_packed_size k)
-        (λ p. record { of_split = λ z. absurd (omega arith); of_packed = λ _. p })
-        (λ w. w.of_packed one)
-        (packed_decides k))
+fitting_decides f k = (fitting_means f k, means_fitting f k)
 
-    split : has_all f (2 ^ packed_bit) ≡ false → Decides (fitting f k) (Fitting f k)
-    split t =
-        let none : bit packed_bit f ≡ 0 = bit_off packed_bit f refl t in
-        Decides-at (fitting f k) (is_split_size k) (cond-false (has_all f (2 ^ packed_bit)) (is_packed_size k) (is_split_size k) t)
-        (Decides-like (is_split_size k)
-        (λ p. record { of_split = λ _. p; of_packed = λ o. absurd (omega arith) })
-        (λ w. w.of_split none)
-        (split_decides k))
+-- what bring-up gives a layout has a capacity of that layout; a number below 2 is that of the split layout
+pub made_split : (s : Agreed) (k : ℕ) (t : Sized) → sizing s k ≡ Ok t → mode_number t.mode < 2 → is_split_size t.capacity ≡ true
+made_split s k t h low = grind (arith, common_steps)
 
--- an answer that is the test's says what the test says
-pub fitting_told : (f k : ℕ) (r : Bool) → r ≡ fitting f k → Decides r (Fitting f k)
-fitting_told f k r h = Decides-at r (fitting f k) h (fitting_decides f k)
-
--- a mode below 2 is that of the split layout
-mode_layout : (f k : ℕ) → ((mode_of f < 2) × (fitting f k ≡ is_split_size k)) ⊎ ((2 ≤ mode_of f) × (fitting f k ≡ is_packed_size k))
-mode_layout f k =
-    elim (cases_Bool (has_all f (2 ^ packed_bit))) [
-      | inl t ↦ inr (omega (arith, mode_bits f, (bit_decides packed_bit f refl).0 t), rw t)
-      | inr t ↦ inl (omega (arith, mode_bits f, bit_off packed_bit f refl t), rw t)
-    ]
-
-made_by : (b : Bool) (x : Sized) (e : Refusal × Agreed) (t : Sized) → cond b (Ok x) (Err e) ≡ Ok t → (b ≡ true) × (x ≡ t)
-made_by true x e t h = (refl, cc)
-made_by false x e t h = let z : ◌≡◌ {A = ℕ} 0 1 = cc in absurd (omega arith)
-
-abbrev given : Agreed → ℕ → Sized
-given s k = record { mode = mode_of s.features; capacity = k }
-
-made : (s : Agreed) (k : ℕ) (t : Sized) → sizing s k ≡ Ok t → (fitting s.features k ≡ true) × (given s k ≡ t)
-made s k t h = made_by (fitting s.features k) (given s k) (Capacity, s) t h
-
--- what bring-up gives a layout has a capacity of that layout
-pub made_split : (s : Agreed) (k : ℕ) (t : Sized) → sizing s k ≡ Ok t → t.mode < 2 → is_split_size t.capacity ≡ true
-made_split s k t h low =
-    let m = made s k t h in
-    let e : mode_of s.features ≡ t.mode = ap (λ (x : Sized). x.mode) m.1 in
-    elim (mode_layout s.features k) [
-      | inl l ↦ rw (sym m.1) (sym l.1 ∙ m.0)
-      | inr l ↦ absurd (omega (arith, l.0))
-    ]
-
-pub made_packed : (s : Agreed) (k : ℕ) (t : Sized) → sizing s k ≡ Ok t → 2 ≤ t.mode → is_packed_size t.capacity ≡ true
-made_packed s k t h high =
-    let m = made s k t h in
-    let e : mode_of s.features ≡ t.mode = ap (λ (x : Sized). x.mode) m.1 in
-    elim (mode_layout s.features k) [
-      | inl l ↦ absurd (omega (arith, l.0))
-      | inr l ↦ rw (sym m.1) (sym l.1 ∙ m.0)
-    ]
+pub made_packed : (s : Agreed) (k : ℕ) (t : Sized) → sizing s k ≡ Ok t → 2 ≤ mode_number t.mode → is_packed_size t.capacity ≡ true
+made_packed s k t h high = grind (arith, common_steps)

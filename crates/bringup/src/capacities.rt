@@ -1,5 +1,5 @@
 // Which capacities a queue may have, for each of the two layouts. One test for all who ask it.
-ghost use Rattle.std.specs.Prelude.{◌≡◌};
+ghost use Rattle.std.specs.Prelude.{◌≡◌, if◌then◌else◌, Some, None};
 ghost use Rattle.bringup.specs.Capacities.{is_split_size, is_packed_size, fitting};
 
 use crate::features::{RING_PACKED, has_all};
@@ -13,7 +13,7 @@ const POSITIONS: u32 = 65_536;
 pub fn is_split_size(k: u16) -> bool
     ensures by_the_rule { result ≡ is_split_size k }
 {
-    4 <= k && k <= LARGEST_CAPACITY && POSITIONS % k as u32 == 0
+    4 <= k && k <= LARGEST_CAPACITY && POSITIONS % u32::from(k) == 0
 }
 
 pub fn is_packed_size(k: u16) -> bool
@@ -22,14 +22,15 @@ pub fn is_packed_size(k: u16) -> bool
     3 <= k && k <= LARGEST_CAPACITY
 }
 
-pub(crate) fn is_fitting(features: u64, capacity: u32) -> bool
-    ensures by_the_rule { result ≡ fitting features capacity }
+// The capacity, if it is one of the layout's.
+pub(crate) fn fitting(features: u64, capacity: u32) -> Option<u16>
+    ensures by_the_rule { result ≡ (if fitting features capacity then Some capacity else None) }
 {
-    if capacity > LARGEST_CAPACITY as u32 {
-        false
-    } else if has_all(features, RING_PACKED) {
-        is_packed_size(capacity as u16)
+    let k = u16::try_from(capacity).ok()?;
+    let fits = if has_all(features, RING_PACKED) {
+        is_packed_size(k)
     } else {
-        is_split_size(capacity as u16)
-    }
+        is_split_size(k)
+    };
+    if fits { Some(k) } else { None }
 }

@@ -1,6 +1,7 @@
-// Feature bits as masks, which of them may be agreed on, and the mode that they give.
+// Feature bits as masks, and which of them may be agreed on. They stay bits of a number, as a device offers them: it may offer any,
+// and one that is not known here is refused as such.
 ghost use Rattle.std.specs.Prelude.{◌≡◌};
-ghost use Rattle.bringup.specs.Features.{has_all, agreeable, mode_of};
+ghost use Rattle.bringup.specs.Features.{has_all, agreeable};
 
 // the driver and the device each say when they want to be notified
 pub const EVENT_IDX: u64 = 1 << 29;
@@ -21,12 +22,4 @@ pub(crate) fn is_agreeable(offered: u64, wanted: u64) -> bool
     ensures by_the_rule { result ≡ agreeable offered wanted }
 {
     has_all(offered, wanted) && has_all(SPOKEN, wanted) && has_all(wanted, VERSION_1)
-}
-
-pub(crate) fn mode_of(features: u64) -> u16
-    ensures by_the_rule { result ≡ mode_of features }
-{
-    let layout = if has_all(features, RING_PACKED) { 2 } else { 0 };
-    let events = if has_all(features, EVENT_IDX) { 1 } else { 0 };
-    layout + events
 }

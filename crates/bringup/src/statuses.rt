@@ -1,5 +1,5 @@
-// The device status that goes with each state.
-ghost use Rattle.std.specs.Prelude.{◌≡◌};
+// The device status that goes with each state: a byte of flags, as it stands in the device's register.
+ghost use Rattle.std.specs.Prelude.{◌≡◌, ℕ};
 ghost use Rattle.bringup.specs.Statuses.{reset_status, known_status, agreed_status, ready_status};
 
 use crate::states::{Agreed, DriverOk, Known, Reset, Sized};
@@ -22,42 +22,46 @@ const WHEN_AGREED: u8 = WHEN_KNOWN | FEATURES_OK;
 
 const WHEN_READY: u8 = WHEN_AGREED | DRIVER_OK;
 
-impl Reset {
-    pub fn status(&self) -> u8
-        ensures nothing_set { result ≡ reset_status }
+// A state of bring-up.
+pub trait State {
+    const FLAGS: u8;
+
+    ghost FLAGS: { ℕ };
+
+    final fn status(&self) -> u8
+        ensures of_the_state { result ≡ FLAGS }
     {
-        WHEN_RESET
+        Self::FLAGS
     }
 }
 
-impl Known {
-    pub fn status(&self) -> u8
-        ensures driver_known { result ≡ known_status }
-    {
-        WHEN_KNOWN
-    }
+impl State for Reset {
+    const FLAGS: u8 = WHEN_RESET;
+
+    ghost FLAGS = { reset_status };
 }
 
-impl Agreed {
-    pub fn status(&self) -> u8
-        ensures features_ok { result ≡ agreed_status }
-    {
-        WHEN_AGREED
-    }
+impl State for Known {
+    const FLAGS: u8 = WHEN_KNOWN;
+
+    ghost FLAGS = { known_status };
 }
 
-impl Sized {
-    pub fn status(&self) -> u8
-        ensures features_ok { result ≡ agreed_status }
-    {
-        WHEN_AGREED
-    }
+impl State for Agreed {
+    const FLAGS: u8 = WHEN_AGREED;
+
+    ghost FLAGS = { agreed_status };
 }
 
-impl DriverOk {
-    pub fn status(&self) -> u8
-        ensures driver_ok { result ≡ ready_status }
-    {
-        WHEN_READY
-    }
+// a capacity does not show in the status
+impl State for Sized {
+    const FLAGS: u8 = WHEN_AGREED;
+
+    ghost FLAGS = { agreed_status };
+}
+
+impl State for DriverOk {
+    const FLAGS: u8 = WHEN_READY;
+
+    ghost FLAGS = { ready_status };
 }

@@ -1,11 +1,13 @@
 // The steps from state to state. A refusal hands back the very state that was given.
 ghost use Rattle.std.specs.Prelude.{◌≡◌, ◌+◌, ◌*◌, is_ok, Decides};
-ghost use Rattle.bringup.specs.Capacities.{fitting, Fitting};
-ghost use Rattle.bringup.specs.Features.{bit, packed_bit, event_bit, agreeable, Agreeable, mode_of};
-ghost use Rattle.bringup.specs.Steps.{starting, knowing, agreeing, sizing, spending};
+ghost use Rattle.bringup.specs.Capacities.{Fitting};
+ghost use Rattle.bringup.specs.Features.{bit, packed_bit, event_bit, Agreeable, mode_of};
+ghost use Rattle.bringup.specs.Modes.{mode_chosen, mode_number};
+ghost use Rattle.bringup.specs.Steps.{starting, knowing, agreeing, sizing, spending, bringing_up};
 
-use crate::capacities::is_fitting;
-use crate::features::{is_agreeable, mode_of};
+use crate::capacities::fitting;
+use crate::features::is_agreeable;
+use crate::modes::Mode;
 use crate::states::{Agreed, DriverOk, Known, Reset, Sized};
 use entries::Refusal;
 
@@ -26,18 +28,12 @@ impl Reset {
 }
 
 impl Known {
-    fn may_agree(&self, wanted: u64) -> bool
-        ensures by_the_rule { result ≡ agreeable self.now.offered wanted }
-        ensures exactly_when_agreeable { Decides result (Agreeable self.now.offered wanted) }
-    {
-        is_agreeable(self.offered, wanted)
-    }
-
+    #[tactic(auto, using(crate::proofs::Agreeing::agreeable_decides))]
     pub fn agree(self, wanted: u64) -> Result<Agreed, (Refusal, Known)>
         ensures agreed_or_handed_back { result ≡ agreeing self wanted }
         ensures exactly_when_agreeable { Decides (is_ok result) (Agreeable self.offered wanted) }
     {
-        if self.may_agree(wanted) {
+        if is_agreeable(self.offered, wanted) {
             Ok(Agreed { features: wanted })
         } else {
             Err((Refusal::Features, self))
@@ -46,37 +42,32 @@ impl Known {
 }
 
 impl Agreed {
-    pub fn mode(&self) -> u16
-        ensures by_the_rule { result ≡ mode_of self.now.features }
-        ensures two_bits_as_a_number { result ≡ 2 * bit packed_bit self.now.features + bit event_bit self.now.features }
+    #[tactic(auto, using(crate::proofs::Agreeing::number_chosen, crate::proofs::Agreeing::mode_bits))]
+    pub fn mode(&self) -> Mode
+        ensures as_chosen { result ≡ mode_chosen self.now.features }
+        ensures by_the_rule { mode_number result ≡ mode_of self.now.features }
+        ensures two_bits_as_a_number { mode_number result ≡ 2 * bit packed_bit self.now.features + bit event_bit self.now.features }
     {
-        mode_of(self.features)
+        Mode::of(self.features)
     }
 
-    fn may_have(&self, capacity: u32) -> bool
-        ensures by_the_rule { result ≡ fitting self.now.features capacity }
-        ensures exactly_when_fitting { Decides result (Fitting self.now.features capacity) }
-    {
-        is_fitting(self.features, capacity)
-    }
-
+    #[tactic(auto, using(crate::proofs::Sizing::fitting_decides))]
     pub fn size(self, capacity: u32) -> Result<Sized, (Refusal, Agreed)>
         ensures sized_or_handed_back { result ≡ sizing self capacity }
         ensures exactly_when_fitting { Decides (is_ok result) (Fitting self.features capacity) }
     {
-        if self.may_have(capacity) {
-            Ok(Sized {
-                mode: mode_of(self.features),
-                capacity: capacity as u16,
-            })
-        } else {
-            Err((Refusal::Capacity, self))
+        match fitting(self.features, capacity) {
+            Some(capacity) => Ok(Sized {
+                mode: self.mode(),
+                capacity,
+            }),
+            None => Err((Refusal::Capacity, self)),
         }
     }
 }
 
 impl Sized {
-    pub fn mode(&self) -> u16
+    pub fn mode(&self) -> Mode
         ensures as_agreed { result ≡ self.now.mode }
     {
         self.mode
@@ -94,4 +85,13 @@ impl Sized {
         let Sized { mode, capacity } = self;
         DriverOk { mode, capacity }
     }
+}
+
+// All steps at once: for whoever has no use for a state that is handed back.
+pub fn bring_up(offered: u64, wanted: u64, capacity: u32) -> Result<Sized, Refusal>
+    ensures step_by_step { result ≡ bringing_up offered wanted capacity }
+{
+    let known = Reset::new(offered).acknowledge();
+    let agreed = known.agree(wanted).map_err(|(refusal, _)| refusal)?;
+    agreed.size(capacity).map_err(|(refusal, _)| refusal)
 }

@@ -140,12 +140,15 @@ module _ {Q : Type 0} (sound : Q → Type 0) (ops : Ops Q) (law : Laws sound ops
 
       pub carries : Carries sound ops kind t r q cell store given q3 served_in left
       carries = record {
-        plain_reply = given_is ∙ ap (λ o. unless o (reply service.answer.status w)) (sym none);
-        plain_data = λ _. ap kind.shows cell_is ∙ lawful.shows_data r cell store fit c.not_refused c.whole_cell;
-        plain_store = store_is ∙ ap (λ o. kept o store service.store) (sym none);
-        nothing_else_touched = rest_stays;
-        later_cell = cell_is ∙ ap (λ o. kept o cell (kind.answers service.answer laid)) (sym none);
-        refusal_changes_nothing = λ h. absurd (both_ways true (ap is_ok (sym given_is) ∙ h) refl);
+        by_the_service = record {
+          plain_reply = given_is ∙ ap (λ o. unless o (reply service.answer.status w)) (sym none);
+          plain_data = λ _. ap kind.shows cell_is ∙ lawful.shows_data r cell store fit c.not_refused c.whole_cell;
+          plain_store = store_is ∙ ap (λ o. kept o store service.store) (sym none);
+          nothing_else_touched = rest_stays;
+          later_cell = cell_is ∙ ap (λ o. kept o cell (kind.answers service.answer laid)) (sym none);
+          refusal_changes_nothing = λ h. absurd (both_ways true (ap is_ok (sym given_is) ∙ h) refl);
+        };
+        refusal_leaves_queue = λ h. absurd (both_ways true (ap is_ok (sym given_is) ∙ h) refl);
         later_queue = queue_is ∙ ap (λ o. kept o q (passed ops q e w)) (sym none);
         idle_again =
             let l = P.idle_again sound ops law q s e typed good within idle w small in

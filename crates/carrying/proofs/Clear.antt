@@ -4,22 +4,21 @@ use Rattle.std.proofs.lemmas.Bool.{both_ways, not-false, eqb-true, eq-eqb, ltb-f
 use Rattle.entries.specs.declared.refusals.Refusal.{Refusal}
 use Rattle.entries.specs.declared.refusals.Refusal.TheVariants.{GroupSize, CellSize, StoreSize, BadRequest, BadEntry, QueueInUse}
 use Rattle.entries.specs.Legality.{last_tag}
-use Rattle.entries.specs.Refusals.{refuse, kept}
+use Rattle.entries.specs.Refusals.{kept}
 use Rattle.class.specs.Cells.{is_cell, cell_size}
 use Rattle.class.specs.Refusals.{is_store, serve_refusal, read_refusal}
 use Rattle.class.specs.Kinds.{Asked, Kind}
+use Rattle.class.proofs.Carries.{passed}
 use Rattle.queue.specs.Laws.{Ops}
 use Rattle.carrying.specs.Refusals.{any, carry_refusal, refusal_for}
-use Rattle.carrying.specs.Rules.{carried, passed, moved_on}
+use Rattle.class.specs.Rules.{carried_by}
+use Rattle.carrying.specs.Rules as R
+use Rattle.carrying.specs.Rules.{moved_on}
 use Rattle.carrying.specs.Laws.{Carries, RefusedAtOnce}
 
 -- no call both accepts and refuses
 pub not_both : {A : Type 0} {x : A} (n : Refusal) (given : Result A Refusal) → given ≡ Err n → given ≡ Ok x → ⊥
 not_both n given h k = let z : ◌≡◌ {A = ℕ} 0 1 = cc in omega arith
-
-fits_not : (n : Refusal) (b : Bool) (o : Option Refusal) → refuse n b o ≡ None → (b ≡ false) × (o ≡ None)
-fits_not n false o h = (refl, h)
-fits_not n true o h = let z : ◌≡◌ {A = ℕ} 0 1 = cc in absurd (omega arith)
 
 neither : (a b : Bool) → (a || b) ≡ false → (a ≡ false) × (b ≡ false)
 neither true b h = absurd (both_ways true h refl)
@@ -42,12 +41,12 @@ pub record Clear (capacity out held back longest least : ℕ) (bad : Bool) (t : 
 pub all_clear : (capacity out held back longest least : ℕ) (bad : Bool) (t : ℕ) (cell store : List ℕ)
     → carry_refusal capacity out held back longest least bad t cell store ≡ None → Clear capacity out held back longest least bad t cell store
 all_clear capacity out held back longest least bad t cell store h =
-    let a = fits_not GroupSize (ltb capacity longest) _ h in
-    let b = fits_not CellSize (not (is_cell cell)) _ a.1 in
-    let c = fits_not StoreSize (not (is_store least store)) _ b.1 in
-    let d = fits_not BadRequest bad _ c.1 in
-    let e = fits_not BadEntry (ltb last_tag t) _ d.1 in
-    let f = fits_not QueueInUse (any out held back) None e.1 in
+    let a = passed GroupSize (ltb capacity longest) _ h in
+    let b = passed CellSize (not (is_cell cell)) _ a.1 in
+    let c = passed StoreSize (not (is_store least store)) _ b.1 in
+    let d = passed BadRequest bad _ c.1 in
+    let e = passed BadEntry (ltb last_tag t) _ d.1 in
+    let f = passed QueueInUse (any out held back) None e.1 in
     let x = neither (ltb 0 out) (ltb 0 held || ltb 0 back) f.0 in
     let y = neither (ltb 0 held) (ltb 0 back) x.1 in
     record {
@@ -81,12 +80,15 @@ module _ {Q : Type 0} (sound : Q → Type 0) (ops : Ops Q) (kind : Kind) (t : �
   refused n h s =
       let a = (kind.plain store r).answer in
       record {
-        plain_reply = ap (λ o. (carried o kind r cell store).answer) (sym h);
-        plain_data = λ e. absurd (both_ways true (sym e) refl);
-        plain_store = ap (λ o. (carried o kind r cell store).store) (sym h);
-        nothing_else_touched = λ i _. refl;
-        later_cell = ap (λ o. (carried o kind r cell store).cell) (sym h);
-        refusal_changes_nothing = λ _. (refl, refl, refl);
-        later_queue = ap (λ o. kept o q (passed ops q (kind.entry t r) a.written)) (sym h);
+        by_the_service = record {
+          plain_reply = ap (λ o. (carried_by o kind r cell store).answer) (sym h);
+          plain_data = λ e. absurd (both_ways true (sym e) refl);
+          plain_store = ap (λ o. (carried_by o kind r cell store).store) (sym h);
+          nothing_else_touched = λ i _. refl;
+          later_cell = ap (λ o. (carried_by o kind r cell store).cell) (sym h);
+          refusal_changes_nothing = λ _. (refl, refl);
+        };
+        refusal_leaves_queue = λ _. refl;
+        later_queue = ap (λ o. kept o q (R.passed ops q (kind.entry t r) a.written)) (sym h);
         idle_again = record { meaning = ap (λ o. kept o (ops.means q) (moved_on (ops.means q) (kind.entry t r))) (sym h); still_sound = s };
       }

@@ -1,3 +1,4 @@
 pub mod Clear
 pub mod Passing
 pub mod Carries
+pub mod GoesOn

@@ -1,11 +1,7 @@
--- When carrying a request is refused, and by which number: the first line that fits, and so the smallest number. Assumes nothing.
-use Rattle.std.specs.Prelude.{ℕ, Bool, not, ◌||◌, List, None, Option, nat_lt}
+-- When carrying a request over a queue is refused, and by which number. Assumes nothing.
+use Rattle.std.specs.Prelude.{ℕ, Bool, ◌||◌, List, Option, nat_lt}
 use Rattle.entries.specs.declared.refusals.Refusal.{Refusal}
-use Rattle.entries.specs.declared.refusals.Refusal.TheVariants.{GroupSize, CellSize, StoreSize, BadRequest, BadEntry, QueueInUse}
-use Rattle.entries.specs.Legality.{last_tag}
-use Rattle.entries.specs.Refusals.{refuse}
-use Rattle.class.specs.Cells.{is_cell}
-use Rattle.class.specs.Refusals.{is_store}
+use Rattle.class.specs.Refusals.{way_refusal}
 use Rattle.class.specs.Kinds.{Asked, Kind}
 use Rattle.queue.specs.declared.values.Stage.TheVariants.{Out, Held, Back}
 use Rattle.queue.specs.Laws.{Ops}
@@ -17,14 +13,7 @@ any out held back = nat_lt 0 out || (nat_lt 0 held || nat_lt 0 back)
 -- by the queue's capacity and the entries in its three lists, the class's longest chain and least store, the class's judgement
 -- of the request, the tag, and the bytes lent as cell and store
 abbrev pub carry_refusal : ℕ → ℕ → ℕ → ℕ → ℕ → ℕ → Bool → ℕ → List ℕ → List ℕ → Option Refusal
-carry_refusal capacity out held back longest least bad t cell store =
-    refuse GroupSize (nat_lt capacity longest)
-    (refuse CellSize (not (is_cell cell))
-    (refuse StoreSize (not (is_store least store))
-    (refuse BadRequest bad
-    (refuse BadEntry (nat_lt last_tag t)
-    (refuse QueueInUse (any out held back)
-    None)))))
+carry_refusal capacity out held back longest least bad t cell store = way_refusal (nat_lt capacity longest) (any out held back) t bad least cell store
 
 -- the same, as a queue's calls tell its part
 abbrev pub holds_any : {Q : Type 0} → Ops Q → Q → Bool

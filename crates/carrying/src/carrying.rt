@@ -1,4 +1,4 @@
-// One request, from the driver's hand to its answer.
+// One request, from the driver's hand to its answer. Its parameters stay apart, as where nothing lies between.
 ghost use Rattle.std.specs.Prelude.{◌≡◌, None};
 ghost use Rattle.class.specs.Kinds.{asked};
 ghost use Rattle.carrying.specs.Refusals.{refusal_for};

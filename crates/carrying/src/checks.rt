@@ -4,8 +4,8 @@ ghost use Rattle.entries.specs.Refusals.{unless};
 ghost use Rattle.class.specs.Kinds.{asked};
 ghost use Rattle.carrying.specs.Refusals.{holds_any, refusal_for};
 
-use class::{Class, Request, check_room};
-use entries::{LAST_TAG, Refusal};
+use class::{Class, Request, check_room, check_tag};
+use entries::Refusal;
 use queue::{Queue, Stage};
 
 // A queue is idle where none of its three lists has an entry.
@@ -26,16 +26,14 @@ pub(crate) fn check_carry<Q: Queue, C: Class>(
 ) -> Result<(), Refusal>
     ensures smallest_that_fits { result ≡ unless (refusal_for Q.ops C.kind queue.now tag (asked request.entry) cell.now store.now) tt }
 {
-    if (queue.capacity() as usize) < C::chain_limit() {
+    if (queue.capacity() as usize) < C::LONGEST_CHAIN {
         return Err(Refusal::GroupSize);
     }
-    check_room(C::store_minimum(), cell, store)?;
+    check_room(C::LEAST_STORE, cell, store)?;
     if C::refuses(request) {
         return Err(Refusal::BadRequest);
     }
-    if tag > LAST_TAG {
-        return Err(Refusal::BadEntry);
-    }
+    check_tag(tag)?;
     if !is_idle(queue) {
         return Err(Refusal::QueueInUse);
     }

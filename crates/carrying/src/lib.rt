@@ -4,6 +4,8 @@
 
 mod carrying;
 mod checks;
+mod over;
 mod stages;
 
 pub use carrying::carry;
+pub use over::Over;

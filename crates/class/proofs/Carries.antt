@@ -17,7 +17,7 @@ pub accepted : {A : Type 0} (o : Option Refusal) (x y : A) → Ok x ≡ unless o
 accepted None x y h = (refl, cc)
 accepted (Some n) x y h = let z : ◌≡◌ {A = ℕ} 0 1 = cc in absurd (omega arith)
 
-passed : (n : Refusal) (b : Bool) (o : Option Refusal) → refuse n b o ≡ None → (b ≡ false) × (o ≡ None)
+pub passed : (n : Refusal) (b : Bool) (o : Option Refusal) → refuse n b o ≡ None → (b ≡ false) × (o ≡ None)
 passed n false o h = (refl, h)
 passed n true o h = let z : ◌≡◌ {A = ℕ} 0 1 = cc in absurd (omega arith)
 

@@ -1,13 +1,14 @@
 -- What every class owes, for each request that it does not refuse, each tag, each starting cell and each store.
-use Rattle.std.specs.Prelude.{◌≡◌, ℕ, ◌+◌, ◌<◌, ◌≤◌, true, false, List, length, is_ok, Some, Result, slice_index}
+use Rattle.std.specs.Prelude.{◌≡◌, ℕ, ◌+◌, ◌<◌, ◌≤◌, Bool, true, false, List, length, is_ok, Some, Option, Result, slice_index}
 use Rattle.entries.specs.declared.refusals.Refusal.{Refusal}
 use Rattle.entries.specs.declared.shapes.Entry.{Entry}
 use Rattle.entries.specs.Legality.{last_tag, place, legal}
 use Rattle.entries.specs.Typed.{Typed}
 use Rattle.class.specs.declared.requests.Reply.{Reply}
 use Rattle.class.specs.Cells.{address, cell_size}
+use Rattle.class.specs.Refusals.{carry_refusal}
 use Rattle.class.specs.Kinds.{Asked, Sized, Kind}
-use Rattle.class.specs.Rules.{effect, carried}
+use Rattle.class.specs.Rules.{effect, carried_by}
 
 -- byte i of the entry's cell lies in its segment k
 abbrev pub InSegment : Entry → ℕ → ℕ → Type 0
@@ -45,13 +46,23 @@ pub record Lawful (kind : Kind) : Type 0 where
   pub lays_only_named : (t : ℕ) (r : Asked) (cell : List ℕ) → kind.refuses r ≡ false → StaysOutside (Named (kind.entry t r)) cell (kind.lays r cell)
   pub serves_only_writable : (e : Entry) (cell store : List ℕ) → StaysOutside (Writable e) cell (effect kind e cell store).cell
 
--- what carrying a request through gives and leaves, for any class
-pub record Carries (kind : Kind) (t : ℕ) (r : Asked) (cell store : List ℕ) (given : Result Reply Refusal) (cell_then store_then : List ℕ) : Type 0 where
+-- what carrying a request through gives and leaves, for any class and any way, by what refuses it there
+pub record CarriesBy (refusal : Option Refusal) (kind : Kind) (t : ℕ) (r : Asked) (cell store : List ℕ) (given : Result Reply Refusal) (cell_then store_then : List ℕ) : Type 0 where
   -- the reply, the data and the store are the plain service's; a refusal is the smallest number that fits
-  pub plain_reply : given ≡ (carried kind t r cell store).answer
+  pub plain_reply : given ≡ (carried_by refusal kind r cell store).answer
   pub plain_data : is_ok given ≡ true → kind.shows cell_then ≡ (kind.plain store r).answer.bytes
-  pub plain_store : store_then ≡ (carried kind t r cell store).store
+  pub plain_store : store_then ≡ (carried_by refusal kind r cell store).store
   -- no byte of the cell is touched but those that the entry's segments name, and every one is as the rule says
   pub nothing_else_touched : StaysOutside (Named (kind.entry t r)) cell cell_then
-  pub later_cell : cell_then ≡ (carried kind t r cell store).cell
+  pub later_cell : cell_then ≡ (carried_by refusal kind r cell store).cell
   pub refusal_changes_nothing : is_ok given ≡ false → (cell_then ≡ cell) × (store_then ≡ store)
+
+-- with nothing between laying and serving
+abbrev pub Carries : Kind → ℕ → Asked → List ℕ → List ℕ → Result Reply Refusal → List ℕ → List ℕ → Type 0
+Carries kind t r cell store = CarriesBy (carry_refusal t (kind.refuses r) kind.least cell store) kind t r cell store
+
+-- a way before and after a request went it: it is as roomy as it was, and with nothing on it once more
+pub record GoesOn {W : Type 0} (sound : W → Type 0) (too_small : W → ℕ → Bool) (in_use : W → Bool) (before after : W) : Type 0 where
+  pub still_sound : sound after
+  pub same_room : (n : ℕ) → too_small after n ≡ too_small before n
+  pub free_again : in_use before ≡ false → in_use after ≡ false

@@ -1,7 +1,7 @@
 -- When the calls of a class refuse, and by which number: the first line that fits, and so the smallest number. Assumes nothing.
-use Rattle.std.specs.Prelude.{ℕ, Bool, not, ◌&&◌, List, length, None, Option, nat_le, nat_lt}
+use Rattle.std.specs.Prelude.{ℕ, Bool, false, not, ◌&&◌, List, length, None, Option, nat_le, nat_lt}
 use Rattle.entries.specs.declared.refusals.Refusal.{Refusal}
-use Rattle.entries.specs.declared.refusals.Refusal.TheVariants.{CellSize, StoreSize, BadRequest, BadEntry}
+use Rattle.entries.specs.declared.refusals.Refusal.TheVariants.{GroupSize, CellSize, StoreSize, BadRequest, BadEntry, QueueInUse}
 use Rattle.entries.specs.Legality.{last_tag}
 use Rattle.entries.specs.Refusals.{refuse}
 use Rattle.class.specs.Cells.{is_cell}
@@ -17,6 +17,11 @@ is_store least store = nat_le least (length store) && nat_le (length store) larg
 abbrev pub read_refusal : List ℕ → Option Refusal
 read_refusal cell =
     refuse CellSize (not (is_cell cell))
+    None
+
+abbrev pub tag_refusal : ℕ → Option Refusal
+tag_refusal t =
+    refuse BadEntry (nat_lt last_tag t)
     None
 
 abbrev pub lay_refusal : ℕ → Bool → List ℕ → Option Refusal
@@ -44,11 +49,17 @@ serve_refusal t least cell store =
     (refuse BadEntry (nat_lt last_tag t)
     None))
 
--- of laying and then serving
-abbrev pub carry_refusal : ℕ → Bool → ℕ → List ℕ → List ℕ → Option Refusal
-carry_refusal t bad least cell store =
-    refuse CellSize (not (is_cell cell))
+-- of carrying a request some way, by whether the way is too small for the class's chains and whether something is still on it
+abbrev pub way_refusal : Bool → Bool → ℕ → Bool → ℕ → List ℕ → List ℕ → Option Refusal
+way_refusal too_small in_use t bad least cell store =
+    refuse GroupSize too_small
+    (refuse CellSize (not (is_cell cell))
     (refuse StoreSize (not (is_store least store))
     (refuse BadRequest bad
     (refuse BadEntry (nat_lt last_tag t)
-    None)))
+    (refuse QueueInUse in_use
+    None)))))
+
+-- of laying and then serving, with nothing between
+abbrev pub carry_refusal : ℕ → Bool → ℕ → List ℕ → List ℕ → Option Refusal
+carry_refusal = way_refusal false false

@@ -57,9 +57,13 @@ pub record Carried : Type 0 where
   pub cell : List ℕ
   pub store : List ℕ
 
-abbrev pub carried : Kind → ℕ → Asked → List ℕ → List ℕ → Carried
-carried kind t r cell store = let refusal = carry_refusal t (kind.refuses r) kind.least cell store in let s = kind.plain store r in record {
+-- whichever way it goes, by what refuses it there
+abbrev pub carried_by : Option Refusal → Kind → Asked → List ℕ → List ℕ → Carried
+carried_by refusal kind r cell store = let s = kind.plain store r in record {
   answer = unless refusal (record { status = s.answer.status; written = s.answer.written });
   cell = kept refusal cell (kind.answers s.answer (kind.lays r cell));
   store = kept refusal store s.store;
 }
+
+abbrev pub carried : Kind → ℕ → Asked → List ℕ → List ℕ → Carried
+carried kind t r cell store = carried_by (carry_refusal t (kind.refuses r) kind.least cell store) kind r cell store

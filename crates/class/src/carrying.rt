@@ -9,6 +9,9 @@ use crate::interface::Class;
 use crate::requests::{Reply, Request};
 use entries::Refusal;
 
+// The tag, the request, the cell and the store stay four parameters, here and over a queue: the tag is picked for a request that
+// a guest made, laying sees the cell alone, and serving sees it with the store; no pair of them goes through all the calls.
+
 // Lays and serves on a cell and a store that serving takes, so that no refusal finds the cell changed.
 fn lay_and_serve<C: Class>(
     tag: u16,
@@ -34,6 +37,6 @@ pub fn carry<C: Class>(
 ) -> Result<Reply, Refusal>
     ensures plain_service { Carries C.kind tag (asked request.entry) cell.old store.old result cell.new store.new }
 {
-    check_room(C::store_minimum(), cell, store)?;
+    check_room(C::LEAST_STORE, cell, store)?;
     lay_and_serve::<C>(tag, request, cell, store)
 }

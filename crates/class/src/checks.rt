@@ -1,7 +1,8 @@
-// The refusals that every class shares, asked before a call touches a byte.
+// The refusals that every class shares, asked before a call touches a byte. They are asked by each call and not known of a type:
+// any bytes may be lent as a cell or a store, and their size is what is judged.
 ghost use Rattle.std.specs.Prelude.{◌≡◌};
 ghost use Rattle.entries.specs.Refusals.{unless};
-ghost use Rattle.class.specs.Refusals.{read_refusal, lay_refusal, store_refusal, room_refusal, serve_refusal};
+ghost use Rattle.class.specs.Refusals.{read_refusal, tag_refusal, lay_refusal, store_refusal, room_refusal, serve_refusal};
 
 use crate::cells::CELL_SIZE;
 use entries::{LAST_TAG, Refusal};
@@ -19,6 +20,16 @@ pub fn check_read(cell: &[u8]) -> Result<(), Refusal>
     Ok(())
 }
 
+// Of a tag: it has to have a cell.
+pub fn check_tag(tag: u16) -> Result<(), Refusal>
+    ensures smallest_that_fits { result ≡ unless (tag_refusal tag) tt }
+{
+    if tag > LAST_TAG {
+        return Err(Refusal::BadEntry);
+    }
+    Ok(())
+}
+
 // Of laying a request: `bad` is the class's own judgement of it.
 pub fn check_lay(tag: u16, bad: bool, cell: &[u8]) -> Result<(), Refusal>
     ensures smallest_that_fits { result ≡ unless (lay_refusal tag bad cell.now) tt }
@@ -27,10 +38,7 @@ pub fn check_lay(tag: u16, bad: bool, cell: &[u8]) -> Result<(), Refusal>
     if bad {
         return Err(Refusal::BadRequest);
     }
-    if tag > LAST_TAG {
-        return Err(Refusal::BadEntry);
-    }
-    Ok(())
+    check_tag(tag)
 }
 
 // Of a store: the class has to be able to work on it.
@@ -56,8 +64,5 @@ pub fn check_serve(tag: u16, least: usize, cell: &[u8], store: &[u8]) -> Result<
     ensures smallest_that_fits { result ≡ unless (serve_refusal tag least cell.now store.now) tt }
 {
     check_room(least, cell, store)?;
-    if tag > LAST_TAG {
-        return Err(Refusal::BadEntry);
-    }
-    Ok(())
+    check_tag(tag)
 }

@@ -1,5 +1,5 @@
 // What a class of request is to the code above it.
-ghost use Rattle.std.specs.Prelude.{◌≡◌, Ok, Err};
+ghost use Rattle.std.specs.Prelude.{◌≡◌, ℕ, Ok, Err};
 ghost use Rattle.class.specs.Kinds.{Kind, asked};
 ghost use Rattle.class.specs.Rules.{laid, served, status_of, data_of};
 ghost use Rattle.class.specs.Laws.{Lawful};
@@ -13,15 +13,12 @@ pub trait Class {
 
     const LEAST_STORE: usize;
 
+    ghost LONGEST_CHAIN: { ℕ };
+
+    ghost LEAST_STORE: { ℕ };
+
     // What the class means.
     ghost kind: { Kind };
-
-    // The constants, where a contract has to speak of them.
-    fn chain_limit() -> usize
-        ensures as_stated { result ≡ kind.longest };
-
-    fn store_minimum() -> usize
-        ensures as_stated { result ≡ kind.least };
 
     // Whether the class does not carry a request, whatever its tag and its cell.
     fn refuses(request: Request<'_>) -> bool
@@ -44,6 +41,11 @@ pub trait Class {
     // The data of the answer, where it lies in the cell.
     fn data<'c>(cell: &'c [u8]) -> Result<&'c [u8], Refusal>
         ensures answer { elim result [ Ok part ↦ Ok part.now ≡ data_of kind cell.now | Err n ↦ Err n ≡ data_of kind cell.now ] };
+
+    // The two constants are what the class means by them.
+    ghost longest_as_meant: { LONGEST_CHAIN ≡ kind.longest };
+
+    ghost least_as_meant: { LEAST_STORE ≡ kind.least };
 
     // A request laid and then served is the plain service's.
     ghost lawful: { Lawful kind };

@@ -23,7 +23,15 @@ impl Class for Console {
 
     const LEAST_STORE: usize = stores::LEAST_STORE;
 
+    ghost LONGEST_CHAIN = { 1 };
+
+    ghost LEAST_STORE = { 8 };
+
     ghost kind = { console };
+
+    ghost longest_as_meant = { refl };
+
+    ghost least_as_meant = { refl };
 
     ghost lawful = { record {
       legal_entry = legal_entry;
@@ -39,14 +47,6 @@ impl Class for Console {
       lays_only_named = λ t r cell kept i h. lays_only_named t r cell i h;
       serves_only_writable = λ e cell store i h. byte_stays e cell store i;
     } };
-
-    fn chain_limit() -> usize {
-        Self::LONGEST_CHAIN
-    }
-
-    fn store_minimum() -> usize {
-        Self::LEAST_STORE
-    }
 
     fn refuses(request: Request<'_>) -> bool {
         is_refused(request)

@@ -1,5 +1,6 @@
 // A console store: le32 bytes kept, le32 bytes lost, then the text.
-ghost use Rattle.std.specs.Prelude.{◌≡◌, ◌-◌, ◌^◌, ◌<◌, ◌≤◌, min, length, take, drop, Ok, Err};
+ghost use Rattle.std.specs.Prelude.{◌≡◌, ◌++◌, ◌-◌, ◌^◌, ◌<◌, ◌≤◌, min, length, take, drop, Ok, Err, Some, codes};
+ghost use Rattle.std.specs.Fmt.{decimal};
 ghost use Rattle.entries.specs.Refusals.{unless};
 ghost use Rattle.class.specs.Refusals.{store_refusal};
 ghost use Rattle.console.specs.Service.{kept_in, lost_in, append};
@@ -7,7 +8,8 @@ ghost use Rattle.console.specs.Log.{text_in, EveryByteCounted, TextGrows};
 
 use class::check_store;
 use entries::Refusal;
-use words::{get32, overwrite, put32};
+use std::fmt;
+use words::{get, overwrite, put};
 
 pub(crate) const LEAST_STORE: usize = 8;
 
@@ -19,11 +21,11 @@ const TEXT_AT: usize = 8;
 
 // Appends what fits after the kept text. The rest is lost, and counted up to the largest count there is.
 pub(crate) fn append_line(line: &[u8], store: &mut [u8])
-    requires { (length line.now ≤ 512) × (length store.old ≤ 2 ^ 32) }
+    requires short_line { length line.now ≤ 512 }
+    requires no_larger_than_a_store { length store.old ≤ 2 ^ 32 }
     ensures what_fits_appended { store.new ≡ append store.old line.now }
 {
-    let kept = get32(store, KEPT_AT);
-    let lost = get32(store, LOST_AT);
+    let Counts { kept, lost } = Counts::of(store);
     // a count beyond the end leaves no room
     let room = store
         .len()
@@ -31,8 +33,8 @@ pub(crate) fn append_line(line: &[u8], store: &mut [u8])
         .saturating_sub(kept as usize);
     let fits = line.len().min(room);
     overwrite(store, TEXT_AT + kept as usize, &line[0..fits]);
-    put32(store, KEPT_AT, kept + fits as u32);
-    put32(
+    put(store, KEPT_AT, kept + fits as u32);
+    put(
         store,
         LOST_AT,
         lost.saturating_add((line.len() - fits) as u32),
@@ -46,6 +48,14 @@ pub struct Counts {
     pub lost: u32,
 }
 
+impl fmt::Display for Counts {
+    ghost output = { λ c. Some (codes "kept " ++ (decimal c.kept ++ (codes ", lost " ++ decimal c.lost))) };
+
+    fn fmt<W: fmt::Write>(&self, f: &mut fmt::Formatter<W>) -> fmt::Result {
+        write!(f, "kept {}, lost {}", self.kept, self.lost)
+    }
+}
+
 impl Counts {
     // The two counts at the start of a store.
     fn of(store: &[u8]) -> Counts
@@ -53,8 +63,8 @@ impl Counts {
         ensures in_32_bits { kept_in store.now < 2 ^ 32 }
     {
         Counts {
-            kept: get32(store, KEPT_AT),
-            lost: get32(store, LOST_AT),
+            kept: get::<u32>(store, KEPT_AT),
+            lost: get::<u32>(store, LOST_AT),
         }
     }
 }
@@ -82,6 +92,6 @@ pub fn text(store: &[u8]) -> Result<&[u8], Refusal>
     ensures grows_by_what_fits { TextGrows store.now }
 {
     check_store(LEAST_STORE, store)?;
-    let kept = get32(store, KEPT_AT);
+    let kept = Counts::of(store).kept;
     Ok(text_within(store, kept as usize))
 }

@@ -115,3 +115,6 @@ same_self e = grind (arith, nat_tests)
 -- an answer that is the test's says what the test says
 pub legal_told : (e : Entry) (r : Bool) → r ≡ legal e → Decides r (Legal e)
 legal_told e r h = Decides-at r (legal e) h (legal_decides e)
+
+pub same_told : (d e : Entry) (r : Bool) → r ≡ same d e → Decides r (Same d e)
+same_told d e r h = Decides-at r (same d e) h (same_decides d e)

@@ -1,7 +1,7 @@
 // The one test of an entry, for all who ask it, and the comparison of two entries.
 ghost use Rattle.std.specs.Prelude.{◌≡◌, Decides};
 ghost use Rattle.entries.specs.Legality.{used, unused, follows, legal_tag, legal_chain, legal, Legal};
-ghost use Rattle.entries.specs.Sameness.{same_segment, same_places, same, Same};
+ghost use Rattle.entries.specs.Sameness.{same, Same};
 
 use crate::shapes::{Entry, LAST_TAG, Segment};
 
@@ -15,7 +15,7 @@ impl Segment {
     fn is_unused(&self) -> bool
         ensures nothing_in_it { result ≡ unused self.now }
     {
-        self.start == 0 && self.length == 0 && !self.writable
+        *self == Segment::UNUSED
     }
 
     // Read-only segments come first: after a writable one only writable ones may come.
@@ -23,12 +23,6 @@ impl Segment {
         ensures read_only_first { result ≡ follows before.now self.now }
     {
         !before.writable || self.writable
-    }
-
-    fn is_same(&self, other: &Segment) -> bool
-        ensures same_in_every_field { result ≡ same_segment self.now other.now }
-    {
-        self.start == other.start && self.length == other.length && self.writable == other.writable
     }
 }
 
@@ -39,6 +33,7 @@ impl Entry {
         self.tag <= LAST_TAG
     }
 
+    // The three places one by one: a loop over as many as the count says is no plainer.
     fn has_legal_chain(&self) -> bool
         ensures legal_by_its_count { result ≡ legal_chain self.now }
     {
@@ -58,18 +53,11 @@ impl Entry {
         self.has_legal_tag() && self.has_legal_chain()
     }
 
-    fn has_same_places(&self, other: &Entry) -> bool
-        ensures same_in_every_place { result ≡ same_places self.now other.now }
-    {
-        let [a, b, c] = self.segments;
-        let [x, y, z] = other.segments;
-        a.is_same(&x) && b.is_same(&y) && c.is_same(&z)
-    }
-
+    // The derived comparison, under a name and a contract.
     pub fn is_same(&self, other: &Entry) -> bool
         ensures by_the_rule { result ≡ same self.now other.now }
         ensures exactly_when_equal { Decides result (Same self.now other.now) }
     {
-        self.tag == other.tag && self.count == other.count && self.has_same_places(other)
+        self == other
     }
 }

@@ -1,6 +1,10 @@
 // Why a call refuses. Where several fit, the smallest number is given.
-ghost use Rattle.std.specs.Prelude.{◌≡◌};
+ghost use Rattle.std.specs.Prelude.{◌≡◌, ◌++◌, Some, codes};
+ghost use Rattle.std.specs.Fmt.{decimal};
 ghost use Rattle.entries.specs.Refusals.{number};
+
+use std::error::Error;
+use std::fmt;
 
 #[derive(Clone, Copy, PartialEq, Eq, Debug)]
 pub enum Refusal {
@@ -29,9 +33,21 @@ pub enum Refusal {
 }
 
 impl Refusal {
+    // A method and no `From`: it gives the number that the documents name, and its name says so.
     pub fn number(self) -> u8
         ensures documented_number { result ≡ number self }
     {
         self as u8
     }
 }
+
+// As the programs print it.
+impl fmt::Display for Refusal {
+    ghost output = { λ r. Some (codes "refused " ++ decimal (number r)) };
+
+    fn fmt<W: fmt::Write>(&self, f: &mut fmt::Formatter<W>) -> fmt::Result {
+        write!(f, "refused {}", self.number())
+    }
+}
+
+impl Error for Refusal {}

@@ -1,5 +1,5 @@
 // Entries that differ in one field from the one that was laid: serving them changes nothing.
-use block::{Block, READ};
+use block::{Block, Operation};
 use class::{CELL_SIZE, Class, Request};
 use entries::{Entry, Segment};
 use std::test::Fail;
@@ -24,15 +24,10 @@ const ROWS: [Row; 10] = [
 fn foreign_entries_change_nothing(rt: HostRuntime) -> Result<(), Fail> {
     let mut cell = [0xee; CELL_SIZE];
     let mut store = [0x11; 1024];
-    let request = Request {
-        code: READ,
-        place: 1,
-        payload: &[],
-    };
+    let request = Request::bare(Operation::Read.into(), 1);
     let laid = Block::lay(3, request, &mut cell)?;
     let before = cell;
-    for row in ROWS {
-        let (tag, count, start, length, writable) = row;
+    for (tag, count, start, length, writable) in ROWS {
         let [header, _, status] = laid.segments;
         let data = Segment {
             start,

@@ -4,4 +4,4 @@
 
 mod stretch;
 
-pub use stretch::in_stretch;
+pub use stretch::Stretch;

@@ -1,5 +1,5 @@
 -- Three runs end to end: what publish, take, finish and collect do to them, for every layout.
-use Rattle.std.proofs.Common.{◌≡◌, ℕ, ◌+◌, ◌%◌, ◌<◌, ◌≤◌, Bool, true, List, ◌∷◌, sym, ap, ◌∙◌, subst, mod-lt, arith}
+use Rattle.std.proofs.Common.{◌≡◌, ℕ, ◌+◌, ◌%◌, ◌<◌, ◌≤◌, Bool, true, List, ◌∷◌, subst, mod-lt, arith}
 use Rattle.entries.specs.declared.shapes.Entry.{Entry}
 use Rattle.positions.proofs.Modulo.{moved_on}
 use Rattle.entries.specs.Legality.{legal}
@@ -19,55 +19,50 @@ pub record Orderly (t : Layout) (span : Entry → ℕ) : Type 0 where
 module _ (t : Layout) (k : ℕ) (m : Meaning) (c : Cuts) (l : Lists t k m c) where
   pub spread : Spread k c
   spread =
-      let a = run_forward back_count back_span t.BackLies c.d0 c.p0 m.back c.d1 c.p1 l.backs in
-      let b = run_forward count_of m.span t.Lies c.d1 c.p1 m.held c.d2 c.p2 l.helds in
-      let e = run_forward count_of m.span t.Lies c.d2 c.p2 m.out c.d3 c.p3 l.outs in
+      let a = run_forward _ _ _ _ _ _ _ _ l.backs in
+      let b = run_forward _ _ _ _ _ _ _ _ l.helds in
+      let e = run_forward _ _ _ _ _ _ _ _ l.outs in
       record { places = (a.0, b.0, e.0, l.within); positions = (a.1, b.1, e.1) }
 
   -- the places and positions that each list takes up
   pub back_ends : (c.d1 ≡ c.d0 + total back_count m.back) × (c.p1 ≡ c.p0 + total back_span m.back)
-  back_ends = (run_places back_count back_span t.BackLies c.d0 c.p0 m.back c.d1 c.p1 l.backs, run_positions back_count back_span t.BackLies c.d0 c.p0 m.back c.d1 c.p1 l.backs)
+  back_ends = (run_places _ _ _ _ _ _ _ _ l.backs, run_positions _ _ _ _ _ _ _ _ l.backs)
 
   pub held_ends : (c.d2 ≡ c.d1 + total count_of m.held) × (c.p2 ≡ c.p1 + total m.span m.held)
-  held_ends = (run_places count_of m.span t.Lies c.d1 c.p1 m.held c.d2 c.p2 l.helds, run_positions count_of m.span t.Lies c.d1 c.p1 m.held c.d2 c.p2 l.helds)
+  held_ends = (run_places _ _ _ _ _ _ _ _ l.helds, run_positions _ _ _ _ _ _ _ _ l.helds)
 
   pub out_ends : (c.d3 ≡ c.d2 + total count_of m.out) × (c.p3 ≡ c.p2 + total m.span m.out)
-  out_ends = (run_places count_of m.span t.Lies c.d2 c.p2 m.out c.d3 c.p3 l.outs, run_positions count_of m.span t.Lies c.d2 c.p2 m.out c.d3 c.p3 l.outs)
+  out_ends = (run_places _ _ _ _ _ _ _ _ l.outs, run_positions _ _ _ _ _ _ _ _ l.outs)
 
   pub used_places : c.d3 ≡ c.d0 + in_use m
-  used_places = let a = back_ends in let b = held_ends in let e = out_ends in omega arith
+  used_places = omega (arith, back_ends, held_ends, out_ends)
 
   -- no more positions than places
   pub narrow : Orderly t m.span → c.p3 + c.d0 ≤ c.d3 + c.p0
   narrow o =
-      let a = run_narrow back_count back_span t.BackLies (λ d p f h. (o.back_legal d p f h).1) c.d0 c.p0 m.back c.d1 c.p1 l.backs in
-      let b = run_narrow count_of m.span t.Lies (λ d p e h. (o.spans e (o.lies_legal d p e h)).1) c.d1 c.p1 m.held c.d2 c.p2 l.helds in
-      let e = run_narrow count_of m.span t.Lies (λ d p e h. (o.spans e (o.lies_legal d p e h)).1) c.d2 c.p2 m.out c.d3 c.p3 l.outs in
+      let a = run_narrow _ _ _ (λ d p f h. (o.back_legal d p f h).1) _ _ _ _ _ l.backs in
+      let b = run_narrow _ _ _ (λ d p e h. (o.spans e (o.lies_legal d p e h)).1) _ _ _ _ _ l.helds in
+      let e = run_narrow _ _ _ (λ d p e h. (o.spans e (o.lies_legal d p e h)).1) _ _ _ _ _ l.outs in
       omega arith
 
   pub lists_well_formed : Orderly t m.span → k < m.modulus → WellFormed m
   lists_well_formed o above =
-      let M = m.modulus in
       let used = used_places in
       let w = l.within in
       let cap = l.capacity_is in
-      let positive : 0 < M = omega arith in
       let legal_entry : (d p : ℕ) (e : Entry) → t.Lies d p e → Spans m.span e = λ d p e h. let g = o.lies_legal d p e h in let s = o.spans e g in (g, s.0, s.1) in
       record {
         modulus_above_capacity = omega arith;
         within_capacity = omega arith;
         spans = o.spans;
-        out_legal = run_all count_of m.span t.Lies (Spans m.span) legal_entry c.d2 c.p2 m.out c.d3 c.p3 l.outs;
-        held_legal = run_all count_of m.span t.Lies (Spans m.span) legal_entry c.d1 c.p1 m.held c.d2 c.p2 l.helds;
-        back_spans = run_all back_count back_span t.BackLies SpansBack o.back_legal c.d0 c.p0 m.back c.d1 c.p1 l.backs;
-        collected_below = subst (λ n. n < M) (sym l.collected_at) (mod-lt c.p0 positive);
-        finished_is = between c.p0 c.p1 _ m.collected m.finished l.collected_at l.finished_at back_ends.1;
-        taken_is = between c.p1 c.p2 _ m.finished m.taken l.finished_at l.taken_at held_ends.1;
-        published_is = between c.p2 c.p3 _ m.taken m.published l.taken_at l.published_at out_ends.1;
+        out_legal = run_all _ _ _ (Spans m.span) legal_entry _ _ _ _ _ l.outs;
+        held_legal = run_all _ _ _ (Spans m.span) legal_entry _ _ _ _ _ l.helds;
+        back_spans = run_all _ _ _ SpansBack o.back_legal _ _ _ _ _ l.backs;
+        collected_below = grind (arith, l.collected_at, mod-lt);
+        finished_is = grind (arith, moved_on, l.collected_at, l.finished_at, back_ends);
+        taken_is = grind (arith, moved_on, l.finished_at, l.taken_at, held_ends);
+        published_is = grind (arith, moved_on, l.taken_at, l.published_at, out_ends);
       }
-    where
-      between : (p q s a b : ℕ) → a ≡ p % m.modulus → b ≡ q % m.modulus → q ≡ p + s → b ≡ (a + s) % m.modulus
-      between p q s a b ea eb e = eb ∙ ap (λ n. n % m.modulus) e ∙ sym (moved_on m.modulus p s) ∙ ap (λ n. (n + s) % m.modulus) (sym ea)
 
   -- what lies there still does, in another state of the same layout
   pub lists_kept : (t' : Layout)
@@ -77,9 +72,9 @@ module _ (t : Layout) (k : ℕ) (m : Meaning) (c : Cuts) (l : Lists t k m c) whe
   lists_kept t' f g =
       let s = spread in
       record {
-        backs = run_kept back_count back_span t.BackLies t'.BackLies c.d0 c.d1 c.p0 c.p1 f c.d0 c.p0 m.back c.d1 c.p1 (omega arith) (omega arith) (omega arith) (omega arith) l.backs;
-        helds = run_kept count_of m.span t.Lies t'.Lies c.d1 c.d3 c.p1 c.p3 g c.d1 c.p1 m.held c.d2 c.p2 (omega arith) (omega arith) (omega arith) (omega arith) l.helds;
-        outs = run_kept count_of m.span t.Lies t'.Lies c.d1 c.d3 c.p1 c.p3 g c.d2 c.p2 m.out c.d3 c.p3 (omega arith) (omega arith) (omega arith) (omega arith) l.outs;
+        backs = run_kept _ _ _ _ c.d0 c.d1 c.p0 c.p1 f _ _ _ _ _ (omega arith) (omega arith) (omega arith) (omega arith) l.backs;
+        helds = run_kept _ _ _ _ c.d1 c.d3 c.p1 c.p3 g _ _ _ _ _ (omega arith) (omega arith) (omega arith) (omega arith) l.helds;
+        outs = run_kept _ _ _ _ c.d1 c.d3 c.p1 c.p3 g _ _ _ _ _ (omega arith) (omega arith) (omega arith) (omega arith) l.outs;
         within = l.within;
         capacity_is = l.capacity_is;
         collected_at = l.collected_at;
@@ -89,7 +84,7 @@ module _ (t : Layout) (k : ℕ) (m : Meaning) (c : Cuts) (l : Lists t k m c) whe
       }
 
   moved : (s p n : ℕ) → n ≡ p % m.modulus → (n + s) % m.modulus ≡ (p + s) % m.modulus
-  moved s p n e = ap (λ x. (x + s) % m.modulus) e ∙ moved_on m.modulus p s
+  moved s p n e = grind (arith, moved_on)
 
   pub lists_publish : (t' : Layout) (e : Entry) → c.d3 + e.count ≤ c.d0 + k
       → Keeps back_count back_span t.BackLies t'.BackLies c.d0 c.d1 c.p0 c.p1
@@ -101,7 +96,7 @@ module _ (t : Layout) (k : ℕ) (m : Meaning) (c : Cuts) (l : Lists t k m c) whe
       record {
         backs = r.backs;
         helds = r.helds;
-        outs = run_push count_of m.span t'.Lies c.d2 c.p2 m.out c.d3 c.p3 e r.outs new;
+        outs = run_push _ _ _ _ _ _ _ _ e r.outs new;
         within = w;
         capacity_is = l.capacity_is;
         collected_at = l.collected_at;
@@ -120,7 +115,7 @@ module _ (t : Layout) (k : ℕ) (m : Meaning) (c : Cuts) (l : Lists t k m c) whe
       let o = out_first e rest h in
       record {
         backs = l.backs;
-        helds = run_push count_of m.span t.Lies c.d1 c.p1 m.held c.d2 c.p2 e l.helds o.0;
+        helds = run_push _ _ _ _ _ _ _ _ e l.helds o.0;
         outs = o.1;
         within = l.within;
         capacity_is = l.capacity_is;
@@ -143,12 +138,12 @@ module _ (t : Layout) (k : ℕ) (m : Meaning) (c : Cuts) (l : Lists t k m c) whe
   lists_finish t' e rest n h f g new =
       let s = spread in
       let o = held_first e rest h in
-      let r = run_forward count_of m.span t.Lies (c.d1 + e.count) (c.p1 + m.span e) rest c.d2 c.p2 o.1 in
+      let r = run_forward _ _ _ _ _ _ _ _ o.1 in
       record {
-        backs = run_push back_count back_span t'.BackLies c.d0 c.p0 m.back c.d1 c.p1 (finished_of m.span e n)
-            (run_kept back_count back_span t.BackLies t'.BackLies c.d0 c.d1 c.p0 c.p1 f c.d0 c.p0 m.back c.d1 c.p1 (omega arith) (omega arith) (omega arith) (omega arith) l.backs) new;
-        helds = run_kept count_of m.span t.Lies t'.Lies (c.d1 + e.count) c.d3 (c.p1 + m.span e) c.p3 g (c.d1 + e.count) (c.p1 + m.span e) rest c.d2 c.p2 (omega arith) (omega arith) (omega arith) (omega arith) o.1;
-        outs = run_kept count_of m.span t.Lies t'.Lies (c.d1 + e.count) c.d3 (c.p1 + m.span e) c.p3 g c.d2 c.p2 m.out c.d3 c.p3 (omega arith) (omega arith) (omega arith) (omega arith) l.outs;
+        backs = run_push _ _ _ _ _ _ _ _ (finished_of m.span e n)
+            (run_kept _ _ _ _ c.d0 c.d1 c.p0 c.p1 f _ _ _ _ _ (omega arith) (omega arith) (omega arith) (omega arith) l.backs) new;
+        helds = run_kept _ _ _ _ (c.d1 + e.count) c.d3 (c.p1 + m.span e) c.p3 g _ _ _ _ _ (omega arith) (omega arith) (omega arith) (omega arith) o.1;
+        outs = run_kept _ _ _ _ (c.d1 + e.count) c.d3 (c.p1 + m.span e) c.p3 g _ _ _ _ _ (omega arith) (omega arith) (omega arith) (omega arith) l.outs;
         within = l.within;
         capacity_is = l.capacity_is;
         collected_at = l.collected_at;

@@ -1,5 +1,5 @@
 -- Items that lie one after another: what holds of every such run.
-use Rattle.std.proofs.Common.{◌≡◌, ℕ, ◌+◌, ◌%◌, ◌≤◌, List, [], ◌∷◌, ◌++◌, length, refl, ap, ◌∙◌, ap₂, arith}
+use Rattle.std.proofs.Common.{◌≡◌, ℕ, ◌+◌, ◌%◌, ◌≤◌, List, [], ◌∷◌, ◌++◌, length, refl, ap, ◌∙◌, arith}
 use Rattle.positions.proofs.Modulo.{next_place}
 use Rattle.queue.specs.Meaning.{All, total}
 use Rattle.queue.specs.Lists.{Run, read_off, Keeps}
@@ -7,8 +7,8 @@ use Rattle.queue.specs.Lists.{Run, read_off, Keeps}
 module _ {X : Type 0} (size span : X → ℕ) where
   pub run_forward : (At : ℕ → ℕ → X → Type 0) (d p : ℕ) (xs : List X) (d' p' : ℕ) → Run size span At d p xs d' p' → (d ≤ d') × (p ≤ p')
   unfolding Run
-  run_forward At d p [] d' p' r = (omega arith, omega arith)
-  run_forward At d p (x ∷ xs) d' p' r = let m = run_forward At (d + size x) (p + span x) xs d' p' r.1 in (omega arith, omega arith)
+  run_forward At d p [] d' p' r = grind arith
+  run_forward At d p (x ∷ xs) d' p' r = grind (arith, run_forward At (d + size x) (p + span x) xs d' p' r.1)
 
   pub run_push : (At : ℕ → ℕ → X → Type 0) (d p : ℕ) (xs : List X) (d' p' : ℕ) (x : X) → Run size span At d p xs d' p' → At d' p' x → Run size span At d p (xs ++ (x ∷ [])) (d' + size x) (p' + span x)
   unfolding Run
@@ -29,9 +29,7 @@ module _ {X : Type 0} (size span : X → ℕ) where
   pub run_narrow : (At : ℕ → ℕ → X → Type 0) → ((d p : ℕ) (x : X) → At d p x → span x ≤ size x) → (d p : ℕ) (xs : List X) (d' p' : ℕ) → Run size span At d p xs d' p' → p' + d ≤ d' + p
   unfolding Run
   run_narrow At f d p [] d' p' r = omega arith
-  run_narrow At f d p (x ∷ xs) d' p' r =
-      let m = run_narrow At f (d + size x) (p + span x) xs d' p' r.1 in
-      let s = f d p x r.0 in omega arith
+  run_narrow At f d p (x ∷ xs) d' p' r = omega (arith, f d p x r.0, run_narrow At f (d + size x) (p + span x) xs d' p' r.1)
 
   -- what is read off is what lies there
   pub run_read : (k : ℕ) (read : ℕ → X) (At : ℕ → ℕ → X → Type 0) → ((d p : ℕ) (x : X) → At d p x → read (p % k) ≡ x)
@@ -40,18 +38,18 @@ module _ {X : Type 0} (size span : X → ℕ) where
   run_read k read At f d p [] d' p' a e r = refl
   run_read k read At f d p (x ∷ xs) d' p' a e r =
       let h : read (a % k) ≡ x = ap read e ∙ f d p x r.0 in
-      ap₂ (λ y ys. y ∷ ys) h (ap (λ y. read_off span (λ q. read (q % k)) (length xs) (a + span y)) h ∙ run_read k read At f (d + size x) (p + span x) xs d' p' (a + span x) (next_place k a p (span x) e) r.1)
+      grind (arith, run_read k read At f (d + size x) (p + span x) xs d' p' (a + span x) (next_place k a p (span x) e) r.1)
 
   -- where a run ends
   pub run_places : (At : ℕ → ℕ → X → Type 0) (d p : ℕ) (xs : List X) (d' p' : ℕ) → Run size span At d p xs d' p' → d' ≡ d + total size xs
   unfolding Run
   run_places At d p [] d' p' r = omega arith
-  run_places At d p (x ∷ xs) d' p' r = let m = run_places At (d + size x) (p + span x) xs d' p' r.1 in omega arith
+  run_places At d p (x ∷ xs) d' p' r = omega (arith, run_places At (d + size x) (p + span x) xs d' p' r.1)
 
   pub run_positions : (At : ℕ → ℕ → X → Type 0) (d p : ℕ) (xs : List X) (d' p' : ℕ) → Run size span At d p xs d' p' → p' ≡ p + total span xs
   unfolding Run
   run_positions At d p [] d' p' r = omega arith
-  run_positions At d p (x ∷ xs) d' p' r = let m = run_positions At (d + size x) (p + span x) xs d' p' r.1 in omega arith
+  run_positions At d p (x ∷ xs) d' p' r = omega (arith, run_positions At (d + size x) (p + span x) xs d' p' r.1)
 
   -- what holds of whatever lies there holds of every item
   pub run_all : (At : ℕ → ℕ → X → Type 0) (P : X → Type 0) → ((d p : ℕ) (x : X) → At d p x → P x) → (d p : ℕ) (xs : List X) (d' p' : ℕ) → Run size span At d p xs d' p' → All P xs
@@ -62,4 +60,4 @@ module _ {X : Type 0} (size span : X → ℕ) where
 -- with spans of 1 there are as many items as positions
 pub total_ones : {X : Type 0} (xs : List X) → total (λ (x : X). 1) xs ≡ length xs
 total_ones [] = refl
-total_ones (x ∷ xs) = let r = total_ones xs in omega arith
+total_ones (x ∷ xs) = omega (arith, total_ones xs)

@@ -3,3 +3,4 @@ pub mod Rules
 pub mod Laws
 pub mod Calls
 pub mod Lists
+pub mod Texts

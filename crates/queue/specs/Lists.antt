@@ -45,16 +45,16 @@ pub record Lists (t : Layout) (k : ℕ) (m : Meaning) (c : Cuts) : Type 0 where
 
 -- one of the four has come on by n places and s positions
 abbrev pub grow_out : Cuts → ℕ → ℕ → Cuts
-grow_out c n s = record { d0 = c.d0; d1 = c.d1; d2 = c.d2; d3 = c.d3 + n; p0 = c.p0; p1 = c.p1; p2 = c.p2; p3 = c.p3 + s }
+grow_out c n s = record c { d3 = c.d3 + n; p3 = c.p3 + s }
 
 abbrev pub grow_held : Cuts → ℕ → ℕ → Cuts
-grow_held c n s = record { d0 = c.d0; d1 = c.d1; d2 = c.d2 + n; d3 = c.d3; p0 = c.p0; p1 = c.p1; p2 = c.p2 + s; p3 = c.p3 }
+grow_held c n s = record c { d2 = c.d2 + n; p2 = c.p2 + s }
 
 abbrev pub grow_back : Cuts → ℕ → ℕ → Cuts
-grow_back c n s = record { d0 = c.d0; d1 = c.d1 + n; d2 = c.d2; d3 = c.d3; p0 = c.p0; p1 = c.p1 + s; p2 = c.p2; p3 = c.p3 }
+grow_back c n s = record c { d1 = c.d1 + n; p1 = c.p1 + s }
 
 abbrev pub shed : Cuts → ℕ → ℕ → Cuts
-shed c n s = record { d0 = c.d0 + n; d1 = c.d1; d2 = c.d2; d3 = c.d3; p0 = c.p0 + s; p1 = c.p1; p2 = c.p2; p3 = c.p3 }
+shed c n s = record c { d0 = c.d0 + n; p0 = c.p0 + s }
 
 -- whatever lies between the places lo and hi and the positions lop and hip still lies there
 abbrev pub Keeps : {X : Type 0} → (X → ℕ) → (X → ℕ) → (ℕ → ℕ → X → Type 0) → (ℕ → ℕ → X → Type 0) → ℕ → ℕ → ℕ → ℕ → Type 0

@@ -26,49 +26,13 @@ pub record Meaning : Type 0 where
 
 -- the same queue with other lists, at other positions, or with other watches
 abbrev pub with_lists : List Entry → List Entry → List Finished → Meaning → Meaning
-with_lists out held back m = record {
-  capacity = m.capacity;
-  modulus = m.modulus;
-  span = m.span;
-  out = out;
-  held = held;
-  back = back;
-  published = m.published;
-  taken = m.taken;
-  finished = m.finished;
-  collected = m.collected;
-  watch = m.watch;
-}
+with_lists out held back m = record m { out = out; held = held; back = back }
 
 abbrev pub at_positions : ℕ → ℕ → ℕ → ℕ → Meaning → Meaning
-at_positions published taken finished collected m = record {
-  capacity = m.capacity;
-  modulus = m.modulus;
-  span = m.span;
-  out = m.out;
-  held = m.held;
-  back = m.back;
-  published = published;
-  taken = taken;
-  finished = finished;
-  collected = collected;
-  watch = m.watch;
-}
+at_positions published taken finished collected m = record m { published = published; taken = taken; finished = finished; collected = collected }
 
 abbrev pub with_watch : (Side → ℕ → Bool) → Meaning → Meaning
-with_watch watch m = record {
-  capacity = m.capacity;
-  modulus = m.modulus;
-  span = m.span;
-  out = m.out;
-  held = m.held;
-  back = m.back;
-  published = m.published;
-  taken = m.taken;
-  finished = m.finished;
-  collected = m.collected;
-  watch = watch;
-}
+with_watch watch m = record m { watch = watch }
 
 -- a queue over which nothing has gone yet
 abbrev pub untouched : ℕ → ℕ → (Entry → ℕ) → (Side → ℕ → Bool) → Meaning

@@ -6,7 +6,8 @@ use crate::values::{Finished, Position, Side, Stage};
 use entries::{Entry, Refusal};
 
 pub trait Queue {
-    // The queues that keep their meaning: those that were made, and what the calls leave of them.
+    // The queues that keep their meaning: those that were made, and what the calls leave of them. It stays a fact in clauses: a type
+    // that keeps it would wrap the queue and have each of the twelve calls once more.
     ghost sound: { Self → Type 0 };
 
     // What each call answers and leaves, for every queue, sound or not.

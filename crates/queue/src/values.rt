@@ -1,14 +1,14 @@
 // The values that a queue's calls take and give, besides entries.
 
 // The two halves of a link: the driver publishes and collects, the device takes and finishes.
-#[derive(Clone, Copy)]
+#[derive(Clone, Copy, PartialEq, Eq, Debug)]
 pub enum Side {
     Driver,
     Device,
 }
 
 // How far each of the four moves of an entry has come.
-#[derive(Clone, Copy)]
+#[derive(Clone, Copy, PartialEq, Eq, Debug)]
 pub enum Position {
     Published,
     Taken,
@@ -17,7 +17,7 @@ pub enum Position {
 }
 
 // The three lists: published and not taken, taken and not finished, finished and not collected.
-#[derive(Clone, Copy)]
+#[derive(Clone, Copy, PartialEq, Eq, Debug)]
 pub enum Stage {
     Out,
     Held,

@@ -1,7 +1,7 @@
 // Rounds of any queue: entries in, entries out, compared field by field.
-use crate::bring_up::split_queue;
+use crate::bring_up::{SPLIT, SPLIT_EVENTS, split_queue};
 use entries::{Entry, Segment};
-use queue::{Finished, Position, Queue, Side, Stage};
+use queue::{Position, Queue, Side, Stage};
 use std::process::Abort;
 use std::test::Fail;
 
@@ -45,25 +45,14 @@ pub(crate) fn entry(n: u32) -> Entry {
 
 // Takes the oldest and says whether it is entry n.
 fn takes<Q: Queue>(queue: &mut Q, n: u32) -> bool {
-    match queue.take() {
-        Some(taken) => taken.is_same(&entry(n)),
-        None => false,
-    }
+    queue.take().is_some_and(|taken| taken.is_same(&entry(n)))
 }
 
 // Collects the oldest and says whether it is entry n, finished with n bytes.
 fn collects<Q: Queue>(queue: &mut Q, n: u32) -> bool {
-    match queue.collect() {
-        Some(
-            Finished {
-                tag,
-                span: _,
-                count,
-                written,
-            },
-        ) => tag == entry(n).tag && count == entry(n).count && written == n,
-        None => false,
-    }
+    let sent = entry(n);
+    let back = queue.collect();
+    back.map(|back| (back.tag, back.count, back.written)) == Some((sent.tag, sent.count, n))
 }
 
 // One entry through an empty queue, with the wake-up questions of both sides, each of which armed before.
@@ -84,12 +73,9 @@ fn round<Q: Queue>(rt: &impl Abort, queue: &mut Q, n: u32) {
 
 // Fills the queue, as far as it goes, and gives how many entries went in.
 fn fill<Q: Queue>(queue: &mut Q, from: u32) -> u32 {
-    for i in 0..1025u32 {
-        if queue.publish(entry(from.wrapping_add(i))).is_err() {
-            return i;
-        }
-    }
-    1025
+    (0..1025)
+        .find(|i| queue.publish(entry(from.wrapping_add(*i))).is_err())
+        .unwrap_or(1025)
 }
 
 // Empties a queue that holds these entries, list by list.
@@ -124,9 +110,9 @@ fn fill_and_empty<Q: Queue>(rt: &impl Abort, queue: &mut Q, times: u32) {
 
 #[test]
 fn split_queues_past_the_wrap(rt: HostRuntime) -> Result<(), Fail> {
-    for mode in 0..2u16 {
+    for wanted in [SPLIT, SPLIT_EVENTS] {
         let mut region = [0xee; 134];
-        let mut queue = split_queue(&mut region, mode, 4)?;
+        let mut queue = split_queue(&mut region, wanted, 4)?;
         for n in 0..70_000u32 {
             round(&rt, &mut queue, n);
         }
@@ -138,8 +124,8 @@ fn split_queues_past_the_wrap(rt: HostRuntime) -> Result<(), Fail> {
 #[test]
 fn split_queues_full_and_empty(rt: HostRuntime) -> Result<(), Fail> {
     let mut small = [0xee; 134];
-    fill_and_empty(&rt, &mut split_queue(&mut small, 0, 4)?, 50);
+    fill_and_empty(&rt, &mut split_queue(&mut small, SPLIT, 4)?, 50);
     let mut large = [0xee; 26_654];
-    fill_and_empty(&rt, &mut split_queue(&mut large, 1, 1024)?, 20);
+    fill_and_empty(&rt, &mut split_queue(&mut large, SPLIT_EVENTS, 1024)?, 20);
     Ok(())
 }

@@ -1,9 +1,9 @@
 // Split regions byte by byte, at places worked out by hand.
-use crate::bring_up::split_queue;
+use crate::bring_up::{SPLIT_EVENTS, split_queue};
 use entries::{Entry, Segment};
 use queue::{Queue, Side};
 use std::test::Fail;
-use words::{get16, get32, get64};
+use words::get;
 
 // A chain of three: header to read, data and status to write.
 fn chain(tag: u16) -> Entry {
@@ -65,7 +65,7 @@ const HALVES: [(usize, u16); 22] = [
 #[test]
 fn words_of_a_split_region(rt: HostRuntime) -> Result<(), Fail> {
     let mut region = [0xee; 134];
-    let mut queue = split_queue(&mut region, 1, 4)?;
+    let mut queue = split_queue(&mut region, SPLIT_EVENTS, 4)?;
     let single = Entry {
         tag: 7,
         count: 1,
@@ -87,13 +87,13 @@ fn words_of_a_split_region(rt: HostRuntime) -> Result<(), Fail> {
     assert!(rt; queue.collect().is_some());
     queue.arm(Side::Driver);
     for (at, half) in HALVES {
-        assert_eq!(rt; get16(queue.region(), at), half);
+        assert_eq!(rt; get::<u16>(queue.region(), at), half);
     }
-    assert_eq!(rt; get32(queue.region(), 4), 16);
-    assert_eq!(rt; get32(queue.region(), 8), 80);
-    assert_eq!(rt; get32(queue.region(), 12), 96);
-    assert_eq!(rt; get64(queue.region(), 16), 544);
-    assert_eq!(rt; get32(queue.region(), 24), 16);
-    assert_eq!(rt; get64(queue.region(), 64), 3824);
+    assert_eq!(rt; get::<u32>(queue.region(), 4), 16);
+    assert_eq!(rt; get::<u32>(queue.region(), 8), 80);
+    assert_eq!(rt; get::<u32>(queue.region(), 12), 96);
+    assert_eq!(rt; get::<u64>(queue.region(), 16), 544);
+    assert_eq!(rt; get::<u32>(queue.region(), 24), 16);
+    assert_eq!(rt; get::<u64>(queue.region(), 64), 3824);
     Ok(())
 }

@@ -1,5 +1,6 @@
--- A queue as it is made is ready for block requests.
-use Rattle.std.proofs.Common.{◌≡◌, ℕ, ◌%◌, true, eqb, List, ap, ◌∙◌, arith}
+-- A queue as it is made is a free way for block requests.
+use Rattle.std.proofs.Common.{◌≡◌, ℕ, true, ltb, List, ap, ◌∙◌, arith}
+use Rattle.std.proofs.lemmas.Bool.{le-ltb}
 use Rattle.bringup.specs.declared.states.Sized.{Sized}
 use Rattle.queue.specs.declared.values.Stage.{Stage}
 use Rattle.queue.specs.declared.values.Stage.TheVariants.{Out, Held, Back}
@@ -9,17 +10,20 @@ use Rattle.split.specs.declared.state.Split.{Split}
 use Rattle.split.specs.State.{split_sound, split_ops, split_laws}
 use Rattle.split.specs.Making.{suits, fresh, made_meaning}
 use Rattle.split.proofs.Starting.{made_fresh}
-use Rattle.carrying.specs.Refusals.{any}
-use Rattle.queue_task.specs.Steps.{Ready}
+use Rattle.carrying.specs.Refusals.{any, holds_any}
+use Rattle.tasks.specs.Steps.{Free}
 
-pub made_ready : (xs : List ℕ) (s : Sized) (q : Split) → split_sound q → split_ops.means q ≡ made_meaning xs s → suits xs s.mode s.capacity ≡ true → Ready split_ops q
-made_ready xs s q sound means ok =
-    let new = fresh s.capacity (eqb (s.mode % 2) 1) in
+pub made_free : (xs : List ℕ) (s : Sized) (q : Split) → split_sound q → split_ops.means q ≡ made_meaning xs s → suits xs s.mode s.capacity ≡ true
+    → Free (λ n. ltb (split_ops.capacity q) n) (holds_any split_ops q)
+made_free xs s q sound means ok =
+    let new = fresh s.capacity s.mode.events in
     let here = made_fresh xs s ok in
     let at : split_ops.means q ≡ new = means ∙ here.0 in
     let none : (g : Stage) → split_ops.entries q g ≡ entries_of new g = λ g. split_laws.reads_entries q g sound ∙ ap (λ (m : Meaning). entries_of m g) at in
+    let c = split_laws.reads_capacity q sound ∙ ap (λ (m : Meaning). m.capacity) at in
+    let least = here.1 in
     record {
-      room = let c = split_laws.reads_capacity q sound ∙ ap (λ (m : Meaning). m.capacity) at in let least = here.1 in omega arith;
+      room = le-ltb (split_ops.capacity q) 3 (omega arith);
       idle =
           ap (λ n. any n (split_ops.entries q Held) (split_ops.entries q Back)) (none Out)
           ∙ ap (λ n. any 0 n (split_ops.entries q Back)) (none Held)

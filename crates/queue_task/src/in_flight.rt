@@ -1,8 +1,8 @@
 // Three chains on the queue at once: what goes in first comes out first, whatever the lengths.
 use crate::queues::tell_positions;
-use crate::stop::Stop;
-use entries::{Entry, Refusal, Segment};
-use queue::{Call, Outcome, Queue, perform};
+use anyhow::Result;
+use entries::{Entry, Segment};
+use queue::{Call, Queue, perform};
 
 // An entry of so many segments, of which only the last is the device's to write.
 fn chain(tag: u16, count: usize) -> Entry {
@@ -28,38 +28,7 @@ fn chain(tag: u16, count: usize) -> Entry {
     }
 }
 
-fn tell_refusal(rt: &HostRuntime, what: &str, answer: Result<(), Refusal>) -> Result<(), Stop> {
-    match answer {
-        Ok(()) => println!(rt; "{what}")?,
-        Err(refusal) => {
-            let number = refusal.number();
-            println!(rt; "{what}: refused {number}")?;
-        }
-    }
-    Ok(())
-}
-
-fn tell_outcome(rt: &HostRuntime, outcome: Outcome) -> Result<(), Stop> {
-    match outcome {
-        Outcome::Published(answer) => tell_refusal(rt, "publish", answer)?,
-        Outcome::Ended(answer) => tell_refusal(rt, "finish", answer)?,
-        Outcome::Took(Some(entry)) => {
-            println!(rt; "take: tag {}, {} segments", entry.tag, entry.count)?;
-        }
-        Outcome::Collected(Some(finished)) => {
-            println!(rt;
-                "collect: tag {}, written {}",
-                finished.tag, finished.written
-            )?;
-        }
-        Outcome::Took(None) => println!(rt; "take: nothing")?,
-        Outcome::Collected(None) => println!(rt; "collect: nothing")?,
-        Outcome::Watching => println!(rt; "watching")?,
-    }
-    Ok(())
-}
-
-pub(crate) fn three_in_flight<Q: Queue>(rt: &HostRuntime, queue: &mut Q) -> Result<(), Stop> {
+pub(crate) fn three_in_flight<Q: Queue>(rt: &HostRuntime, queue: &mut Q) -> Result<()> {
     let calls = [
         Call::Finish(0),
         Call::Publish(chain(4, 3)),
@@ -80,8 +49,7 @@ pub(crate) fn three_in_flight<Q: Queue>(rt: &HostRuntime, queue: &mut Q) -> Resu
         Call::Take,
     ];
     for call in calls {
-        let outcome = perform(queue, call);
-        tell_outcome(rt, outcome)?;
+        println!(rt; "{}", perform(queue, call))?;
     }
     tell_positions(rt, queue)
 }

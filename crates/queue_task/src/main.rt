@@ -6,27 +6,26 @@
 mod bring_up;
 mod disk;
 mod in_flight;
-mod progress;
 mod queues;
 mod steps;
-mod stop;
 mod worked;
 
 use crate::bring_up::{bring_up, tell_bring_up};
 use crate::disk::{first_board, use_disk};
 use crate::in_flight::three_in_flight;
-use crate::progress::report;
 use crate::queues::{ask, go_to_sleep, tell_words};
-use crate::stop::Stop;
 use crate::worked::tell_worked_cases;
+use anyhow::Result;
 use bringup::{EVENT_IDX, VERSION_1};
+use carrying::Over;
 use class::CELL_SIZE;
 use split::Split;
+use tasks::report;
 
 // The bytes of a split region of capacity 8.
 const REGION_SIZE: usize = 238;
 
-fn run(rt: &HostRuntime, wanted: u64) -> Result<(), Stop> {
+fn run(rt: &HostRuntime, wanted: u64) -> Result<()> {
     let mut region = [0xee; REGION_SIZE];
     let mut cell = [0xee; CELL_SIZE];
     let mut disk = [0; 2100];
@@ -43,17 +42,19 @@ fn run(rt: &HostRuntime, wanted: u64) -> Result<(), Stop> {
         &mut disk,
     )?;
     println!(rt; "the same bytes: {same}")?;
-    let mut queue = Split::make(&mut region, bring_up(wanted)?);
-    use_disk(rt, &mut queue, &mut cell, &mut disk)?;
-    tell_words(rt, queue.region())?;
-    three_in_flight(rt, &mut queue)?;
-    let marks = go_to_sleep(rt, &mut queue)?;
-    report(rt, &mut queue, &mut cell, &mut log)?;
-    ask(rt, &queue, marks)?;
-    tell_words(rt, queue.region())
+    let mut way = Over {
+        queue: Split::make(&mut region, bring_up(wanted)?),
+    };
+    use_disk(rt, &mut way, &mut cell, &mut disk)?;
+    tell_words(rt, way.queue.region())?;
+    three_in_flight(rt, &mut way.queue)?;
+    let marks = go_to_sleep(rt, &mut way.queue)?;
+    report(rt, &mut way, &mut cell, &mut log)?;
+    ask(rt, &way.queue, marks)?;
+    tell_words(rt, way.queue.region())
 }
 
-fn main(rt: HostRuntime) -> Result<(), Stop> {
+fn main(rt: HostRuntime) -> Result<()> {
     tell_worked_cases(&rt)?;
     println!(rt; "\nwith flags")?;
     run(&rt, VERSION_1)?;

@@ -1,11 +1,8 @@
 // What a queue can be asked as it goes: positions, wake-ups, and the words of its region.
-use crate::stop::Stop;
+use anyhow::Result;
 use queue::{Position, Queue, Side, arm_and_look};
-use split_ring::{
-    available_event_place, device_area, driver_area, index_place, used_event_place,
-    used_index_place,
-};
-use words::get16;
+use split_ring::{RegionView, available_event_place, device_area, driver_area, used_event_place};
+use words::get;
 
 // How far each side had come when the other went to sleep.
 #[derive(Clone, Copy)]
@@ -14,7 +11,7 @@ pub(crate) struct Marks {
     finished: u32,
 }
 
-pub(crate) fn tell_positions<Q: Queue>(rt: &HostRuntime, queue: &Q) -> Result<(), Stop> {
+pub(crate) fn tell_positions<Q: Queue>(rt: &HostRuntime, queue: &Q) -> Result<()> {
     let published = queue.position(Position::Published);
     let taken = queue.position(Position::Taken);
     let finished = queue.position(Position::Finished);
@@ -33,7 +30,7 @@ fn marks_of<Q: Queue>(queue: &Q) -> Marks {
 }
 
 // Both sides arm, and look once more before they sleep.
-pub(crate) fn go_to_sleep<Q: Queue>(rt: &HostRuntime, queue: &mut Q) -> Result<Marks, Stop> {
+pub(crate) fn go_to_sleep<Q: Queue>(rt: &HostRuntime, queue: &mut Q) -> Result<Marks> {
     let device = arm_and_look(queue, Side::Device);
     let driver = arm_and_look(queue, Side::Driver);
     println!(rt; "armed: work for the device {device}, for the driver {driver}")?;
@@ -47,7 +44,7 @@ pub(crate) fn wake<Q: Queue>(queue: &mut Q) -> Marks {
     marks_of(queue)
 }
 
-pub(crate) fn ask<Q: Queue>(rt: &HostRuntime, queue: &Q, marks: Marks) -> Result<(), Stop> {
+pub(crate) fn ask<Q: Queue>(rt: &HostRuntime, queue: &Q, marks: Marks) -> Result<()> {
     let device = queue.wants_wake_up(Side::Device, marks.published)?;
     let driver = queue.wants_wake_up(Side::Driver, marks.finished)?;
     println!(rt; "wake the device {device}, the driver {driver}")?;
@@ -55,17 +52,22 @@ pub(crate) fn ask<Q: Queue>(rt: &HostRuntime, queue: &Q, marks: Marks) -> Result
 }
 
 // The words of a split region, whose header says where they lie.
-pub(crate) fn tell_words(rt: &HostRuntime, region: &[u8]) -> Result<(), Stop> {
-    let mode = get16(region, 0);
-    let k = get16(region, 2);
-    println!(rt; "region: mode {mode}, capacity {k}")?;
-    let flags = get16(region, driver_area(k));
-    let index = get16(region, index_place(k));
-    let event = get16(region, used_event_place(k));
-    println!(rt; "driver area: flags {flags}, index {index}, used event {event}")?;
-    let flags = get16(region, device_area(k));
-    let index = get16(region, used_index_place(k));
-    let event = get16(region, available_event_place(k));
-    println!(rt; "device area: flags {flags}, index {index}, available event {event}")?;
+pub(crate) fn tell_words(rt: &HostRuntime, bytes: &[u8]) -> Result<()> {
+    let mode = get::<u16>(bytes, 0);
+    let capacity = get::<u16>(bytes, 2);
+    println!(rt; "region: mode {mode}, capacity {capacity}")?;
+    let region = RegionView { bytes, capacity };
+    println!(rt;
+        "driver area: flags {}, index {}, used event {}",
+        region.word(driver_area(capacity)),
+        region.available_index(),
+        region.word(used_event_place(capacity))
+    )?;
+    println!(rt;
+        "device area: flags {}, index {}, available event {}",
+        region.word(device_area(capacity)),
+        region.used_index(),
+        region.word(available_event_place(capacity))
+    )?;
     Ok(())
 }

@@ -1,19 +1,15 @@
 // The worked cases, each asked once more.
-use crate::stop::Stop;
-use positions::in_stretch;
-use worked_cases::worked_case;
+use anyhow::Result;
+use worked_cases::worked_cases;
 
-pub(crate) fn tell_worked_cases(rt: &HostRuntime) -> Result<(), Stop> {
-    for i in 0..100usize {
-        let Some(case) = worked_case(i) else {
-            break;
-        };
-        let answer = in_stretch(case.modulus, case.mark, case.now, case.event);
+pub(crate) fn tell_worked_cases(rt: &HostRuntime) -> Result<()> {
+    for case in worked_cases() {
+        let answer = case.stretch.holds(case.event);
         println!(rt;
             "modulus {}, mark {}, now {}, event {}: {answer}, as worked out: {}",
-            case.modulus,
-            case.mark,
-            case.now,
+            case.stretch.modulus,
+            case.stretch.from,
+            case.stretch.to,
             case.event,
             answer == case.inside
         )?;

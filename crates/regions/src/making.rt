@@ -3,7 +3,7 @@ ghost use Rattle.std.specs.Prelude.{◌≡◌, ◌-◌, ◌≤◌, replicate};
 ghost use Rattle.words.specs.Bytes.{overwrite};
 ghost use Rattle.regions.specs.Making.{header_size, numbered, room, fits, prepared, Drawn};
 
-use words::{put16, put32, zero};
+use words::{put, zero};
 
 pub const HEADER_SIZE: usize = 16;
 
@@ -18,8 +18,9 @@ const DRIVER_PLACE: usize = 8;
 const DEVICE_PLACE: usize = 12;
 
 // Where the areas of a region lie. The descriptor area starts right after the header, and `total` is where the last area ends.
-#[derive(Clone, Copy, Debug)]
+#[derive(Clone, Copy, PartialEq, Eq, Debug)]
 pub struct Map {
+    // as the header has it: a region knows no bring-up
     pub mode: u16,
     pub capacity: u16,
     pub driver_at: u32,
@@ -45,14 +46,16 @@ fn zero_areas(region: &mut [u8], map: Map)
 fn write_header(region: &mut [u8], map: Map)
     ensures later_bytes { region.new ≡ numbered map region.old }
 {
-    put16(region, MODE_PLACE, map.mode);
-    put16(region, CAPACITY_PLACE, map.capacity);
-    put32(region, DESCRIPTOR_PLACE, HEADER_SIZE as u32);
-    put32(region, DRIVER_PLACE, map.driver_at);
-    put32(region, DEVICE_PLACE, map.device_at);
+    put(region, MODE_PLACE, map.mode);
+    put(region, CAPACITY_PLACE, map.capacity);
+    put(region, DESCRIPTOR_PLACE, HEADER_SIZE as u32);
+    put(region, DRIVER_PLACE, map.driver_at);
+    put(region, DEVICE_PLACE, map.device_at);
 }
 
-// Makes a region that is long enough; of another no byte is changed.
+// Makes a region that is long enough; of another no byte is changed. There is one reason to fail, so whether it was made is a
+// `bool`: an error with nothing to tell would be no plainer.
+#[tactic(auto, using(crate::proofs::Made::drawn), unfolding(crate::specs::Making::headed, crate::specs::Making::zeroed))]
 pub fn prepare(region: &mut [u8], map: Map) -> bool
     ensures answer { result ≡ fits map region.old }
     ensures later_bytes { region.new ≡ prepared map region.old }

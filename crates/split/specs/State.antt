@@ -1,48 +1,79 @@
 -- A split queue is a ring in the region that was lent to it: its calls are the ring's. Assumes nothing.
-use Rattle.std.specs.Prelude.{◌≡◌, ◌≤◌, true, length, Some, None, Ok, Err, Option, Result}
-use denote.Ref.{at_last}
+use Rattle.std.specs.Prelude.{◌≡◌, ℕ, false, List, [], Some, None, Ok, Err, Option, Result, refl}
+use Rattle.std.proofs.Common.{sym, ap, ◌∙◌, subst}
+use denote.Ref.{MutBor, at_last}
 use Rattle.entries.specs.declared.refusals.Refusal.{Refusal}
 use Rattle.queue.specs.Meaning.{Meaning}
 use Rattle.queue.specs.Laws.{Ops, Leaves, Laws}
-use Rattle.split_ring.specs.Slots.{region_size}
+use Rattle.split_ring.specs.Cursors.{start}
+use Rattle.split_ring.specs.Lent.{serves}
 use Rattle.split_ring.specs.Ring.{Ring, alive, ring_ops}
 use Rattle.split_ring.specs.Sound.{ring_sound}
-use Rattle.split_ring.proofs.Laws.{ring_laws}
+use Rattle.split_ring.proofs.Laws.{idle_published, idle_taken, idle_finished, idle_collected, idle_armed, idle_hushed, ring_laws}
+use Rattle.split.specs.declared.state.Serving.{Serving}
+use Rattle.split.specs.declared.state.State.{State}
+use Rattle.split.specs.declared.state.State.TheVariants.{Live, Idle}
 use Rattle.split.specs.declared.state.Split.{Split}
 
-abbrev pub ring : Split → Ring
-ring q = record {
-  bytes = q.region.now;
-  size = q.capacity;
-  events = q.events;
-  published = q.published;
-  taken = q.taken;
-  finished = q.finished;
-  collected = q.collected;
-  tags = q.tags;
-  counts = q.counts;
+-- the ring of a queue whose region serves it
+abbrev pub ring_of : Serving → Ring
+ring_of s = record {
+  bytes = s.region.bytes.now;
+  size = s.region.capacity;
+  events = s.events;
+  published = s.published;
+  taken = s.taken;
+  finished = s.finished;
+  collected = s.collected;
+  chains = s.chains;
 }
 
+-- of any other the ring is not alive, and nothing has ever moved in it
+abbrev pub idle : List ℕ → Ring
+idle xs = record {
+  bytes = xs;
+  size = 0;
+  events = false;
+  published = start;
+  taken = start;
+  finished = start;
+  collected = start;
+  chains = [];
+}
+
+abbrev pub ring_in : State → Ring
+ring_in (Live s) = ring_of s
+ring_in (Idle r) = idle r.now
+
+abbrev pub ring : Split → Ring
+ring q = ring_in q.state
+
 -- the queue in whose region and numbers the ring r now is
-abbrev pub holding : Split → Ring → Split
-holding q r = record {
-  region = at_last q.region r.bytes;
-  capacity = r.size;
+abbrev pub serving : Serving → Ring → Serving
+serving s r = record {
+  region = record { bytes = at_last s.region.bytes r.bytes; capacity = r.size };
   events = r.events;
   published = r.published;
   taken = r.taken;
   finished = r.finished;
   collected = r.collected;
-  tags = r.tags;
-  counts = r.counts;
+  chains = r.chains;
 }
 
--- the numbers of a queue that its region serves
-pub record Served (q : Split) : Type 0 where
-  pub is_alive : alive (ring q) ≡ true
-  pub least : 4 ≤ q.capacity
-  pub most : q.capacity ≤ 1024
-  pub long : region_size q.capacity ≤ length q.region.now
+abbrev pub state_holding : State → Ring → State
+state_holding (Live s) r = Live (serving s r)
+state_holding (Idle b) r = Idle b
+
+abbrev pub holding : Split → Ring → Split
+holding q r = record { state = state_holding q.state r }
+
+-- the region that was lent
+abbrev pub lent_in : State → MutBor (List ℕ)
+lent_in (Live s) = s.region.bytes
+lent_in (Idle r) = r
+
+abbrev pub lent_to : Split → MutBor (List ℕ)
+lent_to q = lent_in q.state
 
 -- which refusal an answer tells of
 abbrev pub Told : Option Refusal → Result (Unit {0}) Refusal → Type 0
@@ -75,23 +106,32 @@ split_ops = record {
   segments = λ q s. ring_ops.segments (ring q) s;
 }
 
-held_by : (q : Split) (r : Ring) (m : Meaning) → Leaves ring_sound ring_ops.means r m → Leaves split_sound split_ops.means (holding q r) m
-held_by q r m l = record { meaning = l.meaning; still_sound = l.still_sound }
+-- a queue holds each ring that a call leaves: one that is not alive stays as it is
+held_ring : (t : State) (f : Ring → Ring) → ((r : Ring) → alive r ≡ false → f r ≡ r) → ring_in (state_holding t (f (ring_in t))) ≡ f (ring_in t)
+unfolding serves
+held_ring (Live s) f d = refl
+held_ring (Idle r) f d = sym (d (idle r.now) refl)
+
+held_by : (q : Split) (f : Ring → Ring) → ((r : Ring) → alive r ≡ false → f r ≡ r) → (m : Meaning) → Leaves ring_sound ring_ops.means (f (ring q)) m
+    → Leaves split_sound split_ops.means (holding q (f (ring q))) m
+held_by q f d m l =
+    let e = held_ring q.state f d in
+    record { meaning = ap ring_ops.means e ∙ l.meaning; still_sound = subst ring_sound (sym e) l.still_sound }
 
 pub split_laws : Laws split_sound split_ops
 split_laws = record {
   well_formed = λ q s. ring_laws.well_formed (ring q) s;
   publish_answers = λ q e s. ring_laws.publish_answers (ring q) e s;
-  publish_leaves = λ q e s t. held_by q _ _ (ring_laws.publish_leaves (ring q) e s t);
+  publish_leaves = λ q e s t. held_by q (λ r. ring_ops.published r e) (idle_published e) _ (ring_laws.publish_leaves (ring q) e s t);
   take_answers = λ q s. ring_laws.take_answers (ring q) s;
-  take_leaves = λ q s. held_by q _ _ (ring_laws.take_leaves (ring q) s);
+  take_leaves = λ q s. held_by q ring_ops.taken idle_taken _ (ring_laws.take_leaves (ring q) s);
   finish_answers = λ q s. ring_laws.finish_answers (ring q) s;
-  finish_leaves = λ q n s small. held_by q _ _ (ring_laws.finish_leaves (ring q) n s small);
+  finish_leaves = λ q n s small. held_by q (λ r. ring_ops.finished r n) (idle_finished n) _ (ring_laws.finish_leaves (ring q) n s small);
   collect_answers = λ q s. ring_laws.collect_answers (ring q) s;
-  collect_leaves = λ q s. held_by q _ _ (ring_laws.collect_leaves (ring q) s);
-  arm_leaves = λ q g s. held_by q _ _ (ring_laws.arm_leaves (ring q) g s);
+  collect_leaves = λ q s. held_by q ring_ops.collected idle_collected _ (ring_laws.collect_leaves (ring q) s);
+  arm_leaves = λ q g s. held_by q (λ r. ring_ops.armed r g) (idle_armed g) _ (ring_laws.arm_leaves (ring q) g s);
   arm_watches_own = λ q g s. ring_laws.arm_watches_own (ring q) g s;
-  hush_leaves = λ q g s. held_by q _ _ (ring_laws.hush_leaves (ring q) g s);
+  hush_leaves = λ q g s. held_by q (λ r. ring_ops.hushed r g) (idle_hushed g) _ (ring_laws.hush_leaves (ring q) g s);
   wake_answers = λ q g mark s. ring_laws.wake_answers (ring q) g mark s;
   reads_capacity = λ q s. ring_laws.reads_capacity (ring q) s;
   reads_modulus = λ q s. ring_laws.reads_modulus (ring q) s;

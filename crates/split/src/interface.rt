@@ -1,11 +1,12 @@
 // The queue interface, call by call.
 ghost use Rattle.split.specs.State.{split_sound, split_ops, split_laws};
 
-use crate::state::Split;
-use crate::suppression::{MODULUS, rings};
+use crate::moves::judge;
+use crate::state::{Split, State};
 use entries::{Entry, Refusal};
 use queue::{Finished, Position, Queue, Side, Stage};
 
+#[tactic(auto, unfolding(split_ring::specs::Lent::serves))]
 impl<'a> Queue for Split<'a> {
     ghost sound = { split_sound };
 
@@ -14,47 +15,42 @@ impl<'a> Queue for Split<'a> {
     ghost laws = { split_laws };
 
     fn publish(&mut self, entry: Entry) -> Result<(), Refusal> {
-        self.check_publish(entry)?;
-        self.lay(entry);
-        Ok(())
+        match &mut self.state {
+            State::Live(serving) => serving.publish(entry),
+            State::Idle(_) => judge(entry.is_legal(), 0, entry.count),
+        }
     }
 
     fn take(&mut self) -> Option<Entry> {
-        if !self.has_out() {
-            return None;
+        match &mut self.state {
+            State::Live(serving) => serving.take(),
+            State::Idle(_) => None,
         }
-        let entry = self.oldest_out();
-        self.taken = self.taken.past(entry.count as u16);
-        Some(entry)
     }
 
     fn finish(&mut self, written: u32) -> Result<(), Refusal> {
-        if !self.has_held() {
-            return Err(Refusal::NothingHeld);
+        match &mut self.state {
+            State::Live(serving) => serving.finish(written),
+            State::Idle(_) => Err(Refusal::NothingHeld),
         }
-        self.give_back(written);
-        Ok(())
     }
 
     fn collect(&mut self) -> Option<Finished> {
-        if !self.has_back() {
-            return None;
+        match &mut self.state {
+            State::Live(serving) => serving.collect(),
+            State::Idle(_) => None,
         }
-        let finished = self.oldest_back();
-        self.collected = self.collected.past(finished.count as u16);
-        Some(finished)
     }
 
     fn arm(&mut self, side: Side) {
-        if self.is_alive() {
-            let word = if self.events { self.own(side) } else { 0 };
-            self.write_watch_word(side, word);
+        if let State::Live(serving) = &mut self.state {
+            serving.arm(side);
         }
     }
 
     fn hush(&mut self, side: Side) {
-        if self.is_alive() && !self.events {
-            self.write_watch_word(side, 1);
+        if let State::Live(serving) = &mut self.state {
+            serving.hush(side);
         }
     }
 
@@ -62,53 +58,44 @@ impl<'a> Queue for Split<'a> {
         if mark >= self.modulus() {
             return Err(Refusal::BadMark);
         }
-        let word = self.watch_word(receiver);
-        Ok(self.is_alive() && rings(self.events, word, mark, self.come(receiver)))
+        match &self.state {
+            State::Live(serving) => Ok(serving.wants_wake_up(receiver, mark)),
+            State::Idle(_) => Ok(false),
+        }
     }
 
     fn capacity(&self) -> u32 {
-        if self.is_alive() {
-            u32::from(self.capacity)
-        } else {
-            0
+        match &self.state {
+            State::Live(serving) => serving.capacity(),
+            State::Idle(_) => 0,
         }
     }
 
     fn modulus(&self) -> u32 {
-        if self.is_alive() { MODULUS } else { 1 }
+        match &self.state {
+            State::Live(serving) => serving.modulus(),
+            State::Idle(_) => 1,
+        }
     }
 
     fn position(&self, which: Position) -> u32 {
-        let cursor = match which {
-            Position::Published => self.published,
-            Position::Taken => self.taken,
-            Position::Finished => self.finished,
-            Position::Collected => self.collected,
-        };
-        u32::from(cursor.position)
+        match &self.state {
+            State::Live(serving) => u32::from(serving.cursor(which).position),
+            State::Idle(_) => 0,
+        }
     }
 
     fn entries(&self, stage: Stage) -> u32 {
-        let count = match stage {
-            Stage::Out => self.published.position.wrapping_sub(self.taken.position),
-            Stage::Held => self.taken.position.wrapping_sub(self.finished.position),
-            Stage::Back => self.finished.position.wrapping_sub(self.collected.position),
-        };
-        u32::from(count)
+        match &self.state {
+            State::Live(serving) => u32::from(serving.length(stage).position),
+            State::Idle(_) => 0,
+        }
     }
 
     fn segments(&self, stage: Stage) -> u32 {
-        let count = match stage {
-            Stage::Out => self
-                .published
-                .descriptor
-                .wrapping_sub(self.taken.descriptor),
-            Stage::Held => self.taken.descriptor.wrapping_sub(self.finished.descriptor),
-            Stage::Back => self
-                .finished
-                .descriptor
-                .wrapping_sub(self.collected.descriptor),
-        };
-        u32::from(count)
+        match &self.state {
+            State::Live(serving) => u32::from(serving.length(stage).descriptor),
+            State::Idle(_) => 0,
+        }
     }
 }

@@ -4,7 +4,9 @@
 #![tactic(auto)]
 
 mod chains;
+mod cursors;
 mod interface;
+mod lent;
 mod making;
 mod moves;
 mod state;

@@ -1,156 +1,203 @@
-// The four moves of an entry, each on a queue that is known to have room or something to move.
-ghost use Rattle.std.specs.Prelude.{◌≡◌, ◌-◌, ◌<◌, ◌≤◌, true, not, ◌&&◌, is_ok, None, nat_le, nat_lt};
+// The four moves of an entry.
+ghost use Rattle.std.specs.Prelude.{◌≡◌, ◌-◌, ◌%◌, ◌<◌, ◌≤◌, not, None, nat_lt, IfOk};
 ghost use Rattle.entries.specs.declared.refusals.Refusal.TheVariants.{BadEntry, NoRoom};
 ghost use Rattle.entries.specs.Refusals.{refuse, unless};
-ghost use Rattle.split_ring.specs.Slots.{region_size};
-ghost use Rattle.split_ring.specs.Ring.{alive, capacity, busy, publish_refused, with_entry, has_out, oldest_out, has_held, held_head, with_finished, has_back, oldest_back};
-ghost use Rattle.split.specs.State.{ring, holding, Served, Told};
+ghost use Rattle.split_ring.specs.Ring.{capacity, modulus_of, busy, publish_refused, with_entry, chain_at, head_in, has_out, oldest_out, has_held, with_finished, has_back, oldest_back, ring_ops};
+ghost use Rattle.split.specs.State.{ring_of, serving, Told};
 
-use crate::chains::{lay_chain, read_chain};
-use crate::state::{MOST, Split};
+use crate::chains::read_chain;
+use crate::state::Serving;
+use crate::suppression::MODULUS;
 use entries::{Entry, Refusal};
 use queue::Finished;
-use split_ring::{
-    UsedElement, available_index, head, publish_head, region_size, return_used, used, used_index,
-};
-
-// Whether a region of `len` bytes serves a queue of that capacity.
-fn serves(capacity: u16, len: usize) -> bool
-    ensures by_the_rule { result ≡ (nat_le 4 capacity && (nat_le capacity 1024 && nat_le (region_size capacity) len)) }
-{
-    4 <= capacity && capacity as usize <= MOST && region_size(capacity) <= len
-}
+use split_ring::{Chain, UsedElement};
 
 // Whether an entry may be published: `legal` is its own judgement.
-fn judge(legal: bool, free: u16, count: usize) -> Result<(), Refusal>
+pub(crate) fn judge(legal: bool, free: u16, count: usize) -> Result<(), Refusal>
     ensures smallest_that_fits { result ≡ unless (refuse BadEntry (not legal) (refuse NoRoom (nat_lt free count) None)) tt }
 {
     if !legal {
         return Err(Refusal::BadEntry);
     }
-    if (free as usize) < count {
+    if usize::from(free) < count {
         return Err(Refusal::NoRoom);
     }
     Ok(())
 }
 
-impl Split<'_> {
-    // Whether the region serves the queue's numbers; where it does not, the queue does nothing.
-    pub(crate) fn is_alive(&self) -> bool
-        ensures by_the_rule { result ≡ alive (ring self.now) }
-        ensures served { result ≡ true → Served self.now }
+impl Serving<'_> {
+    pub(crate) fn capacity(&self) -> u32
+        ensures answer { result ≡ capacity (ring_of self.now) }
     {
-        serves(self.capacity, self.region.len())
+        u32::from(self.region.view().capacity)
+    }
+
+    pub(crate) fn modulus(&self) -> u32
+        ensures answer { result ≡ modulus_of (ring_of self.now) }
+    {
+        self.region.served();
+        MODULUS
     }
 
     // How many segments are free.
-    pub(crate) fn free(&self) -> u16
-        ensures what_is_left { result ≡ capacity (ring self.now) - busy (ring self.now) }
+    fn free(&self) -> u16
+        ensures what_is_left { result ≡ capacity (ring_of self.now) - busy (ring_of self.now) }
     {
-        let capacity = if self.is_alive() { self.capacity } else { 0 };
-        let busy = self
-            .published
-            .descriptor
-            .wrapping_sub(self.collected.descriptor);
-        capacity.saturating_sub(busy)
+        let busy = self.published.since(self.collected).descriptor;
+        self.region.view().capacity.saturating_sub(busy)
     }
 
     // Refuses an entry that is not legal or has more segments than are free.
-    pub(crate) fn check_publish(&self, entry: Entry) -> Result<(), Refusal>
-        ensures smallest_that_fits { Told (publish_refused (ring self.now) entry) result }
-        ensures room_for_it { is_ok result ≡ true → Served self.now × (entry.count ≤ 3) }
+    fn check_publish(&self, entry: Entry) -> Result<(), Refusal>
+        ensures smallest_that_fits { Told (publish_refused (ring_of self.now) entry) result }
+        ensures a_chain { IfOk result (λ _. entry.count ≤ 3) }
     {
         judge(entry.is_legal(), self.free(), entry.count)
     }
 
-    pub(crate) fn lay(&mut self, entry: Entry)
-        requires { (Served self.old) × (entry.count ≤ 3) }
-        ensures later_queue { self.new ≡ holding self.old (with_entry (ring self.old) entry) }
+    fn lay(&mut self, entry: Entry)
+        requires { entry.count ≤ 3 }
+        ensures later_queue { self.new ≡ serving self.old (with_entry (ring_of self.old) entry) }
     {
-        let k = self.capacity;
+        let k = self.region.view().capacity;
         let first = self.published.descriptor % k;
         let slot = self.published.position % k;
-        let count = entry.count as u16;
-        let after = self.published.past(count);
-        lay_chain(self.region, k, first, entry);
-        publish_head(self.region, k, slot, first, after.position);
+        let chain = Chain {
+            tag: entry.tag,
+            count: entry.count as u16,
+        };
+        let after = self.published.past(chain.count);
+        self.region.publish(entry, first, slot, after.position);
         self.published = after;
-        self.tags[first as usize] = entry.tag;
-        self.counts[first as usize] = count;
+        self.chains[usize::from(first)] = chain;
     }
+
+    pub(crate) fn publish(&mut self, entry: Entry) -> Result<(), Refusal>
+        ensures answer { result ≡ ring_ops.publish_answer (ring_of self.old) entry }
+        ensures later_queue { self.new ≡ serving self.old (ring_ops.published (ring_of self.old) entry) }
+    {
+        self.check_publish(entry)?;
+        self.lay(entry);
+        Ok(())
+    }
+
+    // The first descriptor of the chain whose head is in the slot of a position.
+    fn first_at(&self, position: u16) -> u16
+        ensures as_it_lies { result ≡ head_in (ring_of self.now) (position % self.now.region.capacity) }
+        ensures within { result < 1024 }
+    {
+        let region = self.region.view();
+        let k = region.capacity;
+        region.head(position % k) % k
+    }
+
+    // What is kept of the chain that starts at a descriptor.
+    fn chain(&self, first: usize) -> Chain
+        requires { first < 1024 }
+        ensures as_it_was_kept { result ≡ chain_at (ring_of self.now) first }
+    {
+        self.chains[first]
+    }
+
+    // Three tests and not one, since each asks another side: the driver's index, the device's own cursor, the device's index.
 
     // Something is out when the driver's index, in the region, has gone past what the device has taken.
-    pub(crate) fn has_out(&self) -> bool
-        ensures by_the_rule { result ≡ has_out (ring self.now) }
-        ensures served { result ≡ true → Served self.now }
+    fn has_out(&self) -> bool
+        ensures by_the_rule { result ≡ has_out (ring_of self.now) }
     {
-        self.is_alive() && self.taken.position != available_index(self.region, self.capacity)
+        self.taken.position != self.region.view().available_index()
     }
 
-    pub(crate) fn oldest_out(&self) -> Entry
-        requires { Served self.now }
-        ensures as_it_lies { result ≡ oldest_out (ring self.now) }
+    #[tactic(auto, unfolding(split_ring::specs::Ring::entry_in))]
+    fn oldest_out(&self) -> Entry
+        ensures as_it_lies { result ≡ oldest_out (ring_of self.now) }
         ensures at_most_three { result.count ≤ 3 }
     {
-        let k = self.capacity;
-        let first = head(self.region, k, self.taken.position % k) % k;
-        read_chain(self.region, k, first, self.tags[first as usize])
+        let first = self.first_at(self.taken.position);
+        read_chain(
+            self.region.view(),
+            first,
+            self.chain(usize::from(first)).tag,
+        )
     }
 
-    pub(crate) fn has_held(&self) -> bool
-        ensures by_the_rule { result ≡ has_held (ring self.now) }
-        ensures served { result ≡ true → Served self.now }
+    pub(crate) fn take(&mut self) -> Option<Entry>
+        ensures answer { result ≡ ring_ops.take_answer (ring_of self.old) }
+        ensures later_queue { self.new ≡ serving self.old (ring_ops.taken (ring_of self.old)) }
     {
-        self.is_alive() && self.finished.position != self.taken.position
+        if !self.has_out() {
+            return None;
+        }
+        let entry = self.oldest_out();
+        self.taken = self.taken.past(entry.count as u16);
+        Some(entry)
     }
 
-    // The first descriptor of the oldest entry that is held.
-    fn held_head(&self) -> u16
-        requires { Served self.now }
-        ensures as_it_lies { result ≡ held_head (ring self.now) }
-        ensures within { result < self.now.capacity }
+    fn has_held(&self) -> bool
+        ensures by_the_rule { result ≡ has_held (ring_of self.now) }
     {
-        let k = self.capacity;
-        head(self.region, k, self.finished.position % k) % k
+        self.region.served();
+        self.finished.position != self.taken.position
     }
 
-    pub(crate) fn give_back(&mut self, written: u32)
-        requires { Served self.old }
-        ensures later_queue { self.new ≡ holding self.old (with_finished (ring self.old) written) }
+    fn give_back(&mut self, written: u32)
+        ensures later_queue { self.new ≡ serving self.old (with_finished (ring_of self.old) written) }
     {
-        let k = self.capacity;
-        let slot = self.finished.position % k;
-        let first = self.held_head();
-        let after = self.finished.past(self.counts[first as usize]);
+        let slot = self.finished.position % self.region.view().capacity;
+        let first = self.first_at(self.finished.position);
+        let after = self.finished.past(self.chain(usize::from(first)).count);
         let element = UsedElement {
             head: u32::from(first),
             written,
         };
-        return_used(self.region, k, slot, element, after.position);
+        self.region.return_used(slot, element, after.position);
         self.finished = after;
     }
 
-    // Something is back when the device's index, in the region, has gone past what the driver has collected.
-    pub(crate) fn has_back(&self) -> bool
-        ensures by_the_rule { result ≡ has_back (ring self.now) }
-        ensures served { result ≡ true → Served self.now }
+    pub(crate) fn finish(&mut self, written: u32) -> Result<(), Refusal>
+        ensures answer { result ≡ ring_ops.finish_answer (ring_of self.old) }
+        ensures later_queue { self.new ≡ serving self.old (ring_ops.finished (ring_of self.old) written) }
     {
-        self.is_alive() && self.collected.position != used_index(self.region, self.capacity)
+        if !self.has_held() {
+            return Err(Refusal::NothingHeld);
+        }
+        self.give_back(written);
+        Ok(())
     }
 
-    pub(crate) fn oldest_back(&self) -> Finished
-        requires { Served self.now }
-        ensures as_it_lies { result ≡ oldest_back (ring self.now) }
+    // Something is back when the device's index, in the region, has gone past what the driver has collected.
+    fn has_back(&self) -> bool
+        ensures by_the_rule { result ≡ has_back (ring_of self.now) }
+    {
+        self.collected.position != self.region.view().used_index()
+    }
+
+    #[tactic(auto, unfolding(split_ring::specs::Ring::finished_in))]
+    fn oldest_back(&self) -> Finished
+        ensures as_it_lies { result ≡ oldest_back (ring_of self.now) }
         ensures small_count { result.count < 65536 }
     {
-        let k = self.capacity;
-        let element = used(self.region, k, self.collected.position % k);
-        let first = (element.head % u32::from(k)) as usize;
+        let region = self.region.view();
+        let k = region.capacity;
+        let element = region.used(self.collected.position % k);
+        let chain = self.chain((element.head % u32::from(k)) as usize);
         Finished {
-            tag: self.tags[first],
+            tag: chain.tag,
             span: 1,
-            count: usize::from(self.counts[first]),
+            count: usize::from(chain.count),
             written: element.written,
         }
+    }
+
+    pub(crate) fn collect(&mut self) -> Option<Finished>
+        ensures answer { result ≡ ring_ops.collect_answer (ring_of self.old) }
+        ensures later_queue { self.new ≡ serving self.old (ring_ops.collected (ring_of self.old)) }
+    {
+        if !self.has_back() {
+            return None;
+        }
+        let finished = self.oldest_back();
+        self.collected = self.collected.past(finished.count as u16);
+        Some(finished)
     }
 }

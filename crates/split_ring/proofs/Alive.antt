@@ -1,28 +1,23 @@
 -- A ring is either alive, with lists in it, or it does nothing; what a call leaves is told from these two ends.
-use Rattle.std.proofs.Common.{◌≡◌, ℕ, Bool, true, false, not, ◌&&◌, eqb, List, [], ◌∷◌, None, Option, sym, refl, ap, ◌∙◌, subst, arith}
+use Rattle.std.proofs.Common.{◌≡◌, ℕ, Bool, true, false, not, ◌&&◌, eqb, None, Option, sym, refl, ap, ◌∙◌, subst}
 use Rattle.std.proofs.lemmas.Bool.{eq-eqb, ne_eqb}
-use Rattle.std.proofs.lemmas.Bool.Decides.{nat_tests}
 use Rattle.entries.specs.declared.refusals.Refusal.{Refusal}
 use Rattle.entries.specs.Refusals.{refuse}
 use Rattle.queue.specs.Meaning.{Meaning}
 use Rattle.queue.specs.Laws.{Leaves}
-use Rattle.split_ring.specs.Ring.{Ring, alive, means_at, meaning, nothing, ring_ops}
+use Rattle.split_ring.specs.Ring.{Ring, alive, means_at, nothing, ring_ops}
 use Rattle.split_ring.specs.Sound.{Shape, Live, Idle, sound_at, ring_sound}
-use Rattle.split_ring.proofs.Holding.{means_these}
+use Rattle.split_ring.proofs.Lending.{serves_true}
+use Rattle.split_ring.proofs.Holding.{meant, means_these}
 
 abbrev pub LeavesRing : Ring → Meaning → Type 0
 LeavesRing = Leaves ring_sound ring_ops.means
 
 pub shape_alive : (r : Ring) → Shape r → alive r ≡ true
-unfolding alive
-shape_alive r s = let a = s.least in let b = s.most in let c = s.long in grind (arith, nat_tests)
-
--- the meaning of a ring in which these lists lie
-abbrev pub meant : (r : Ring) → Live r → Meaning
-meant r l = meaning r l.back l.held l.out
+shape_alive r s = serves_true s.serves
 
 pub live_means : (r : Ring) (l : Live r) → ring_ops.means r ≡ meant r l
-live_means r l = ap (λ b. means_at b r) (shape_alive r l.shape) ∙ means_these r l.shape l.back l.held l.out l.holds
+live_means r l = ap (λ b. means_at b r) (shape_alive r l.shape) ∙ means_these r l
 
 pub live_leaves : (r : Ring) (m : Meaning) (l : Live r) → meant r l ≡ m → LeavesRing r m
 live_leaves r m l e = record {
@@ -55,14 +50,11 @@ agree a x y z e q = ap (λ b. a && not b) (eq-eqb x y (q ∙ sym e)) ∙ none a
     none true = refl
     none false = refl
 
-pub some_not_none : {X : Type 0} (x : X) (xs : List X) → x ∷ xs ≡ [] → ⊥
-some_not_none x xs e = let z : ◌≡◌ {A = ℕ} 0 1 = cc in omega arith
-
 -- no refusal fitted
 pub passed : (n : Refusal) (b : Bool) (o : Option Refusal) → refuse n b o ≡ None → (b ≡ false) × (o ≡ None)
 passed n false o h = (refl, h)
-passed n true o h = let z : ◌≡◌ {A = ℕ} 0 1 = cc in absurd (omega arith)
+passed n true o h = absurd cc
 
 pub both : (x y : Bool) → (x && y) ≡ true → (x ≡ true) × (y ≡ true)
 both true y h = (refl, h)
-both false y h = let z : ◌≡◌ {A = ℕ} 0 1 = cc in absurd (omega arith)
+both false y h = absurd cc

@@ -25,27 +25,15 @@ length-used k xs j u i = simp length-put
 
 -- a number outside what is written: a descriptor, a head with the index, a used element with the index
 pub beside_descriptor : (xs : List ℕ) (j : ℕ) (v : Descriptor) (n p : ℕ) → (p + n ≤ descriptor_place j) ⊎ (descriptor_place j + 16 ≤ p) → get n (put_descriptor xs j v) p ≡ get n xs p
-beside_descriptor xs j v n p (inl h) =
-    below 2 n _ (descriptor_place j + 14) p _ (omega arith) ∙ below 2 n _ (descriptor_place j + 12) p _ (omega arith) ∙ below 4 n _ (descriptor_place j + 8) p _ (omega arith) ∙ below 8 n _ (descriptor_place j) p _ h
-beside_descriptor xs j v n p (inr h) =
-    above 2 n _ (descriptor_place j + 14) p _ (omega arith) ∙ above 2 n _ (descriptor_place j + 12) p _ (omega arith) ∙ above 4 n _ (descriptor_place j + 8) p _ (omega arith) ∙ above 8 n _ (descriptor_place j) p _ (omega arith)
+beside_descriptor xs j v n p (inl h) = grind (arith, below)
+beside_descriptor xs j v n p (inr h) = grind (arith, above)
 
 pub beside_head : (k : ℕ) (xs : List ℕ) (j h i n p : ℕ) → (p + n ≤ index_place k) ⊎ (index_place k + 2 ≤ p) → (p + n ≤ head_place k j) ⊎ (head_place k j + 2 ≤ p) → get n (put_head k xs j h i) p ≡ get n xs p
 beside_head k xs j h i n p a b = get_apart 2 n _ (index_place k) p _ a ∙ get_apart 2 n _ (head_place k j) p _ b
 
 pub beside_used : (k : ℕ) (xs : List ℕ) (j : ℕ) (u : UsedElement) (i n p : ℕ) → (p + n ≤ used_index_place k) ⊎ (used_index_place k + 2 ≤ p) → (p + n ≤ used_place k j) ⊎ (used_place k j + 8 ≤ p) → get n (put_used k xs j u i) p ≡ get n xs p
-beside_used k xs j u i n p a b =
-    get_apart 2 n _ (used_index_place k) p _ a
-    ∙ get_apart 4 n _ (used_place k j + 4) p _ (second b)
-    ∙ get_apart 4 n _ (used_place k j) p _ (first b)
-  where
-    second : (p + n ≤ used_place k j) ⊎ (used_place k j + 8 ≤ p) → (p + n ≤ used_place k j + 4) ⊎ (used_place k j + 4 + 4 ≤ p)
-    second (inl h) = inl (omega arith)
-    second (inr h) = inr (omega arith)
-
-    first : (p + n ≤ used_place k j) ⊎ (used_place k j + 8 ≤ p) → (p + n ≤ used_place k j) ⊎ (used_place k j + 4 ≤ p)
-    first (inl h) = inl h
-    first (inr h) = inr (omega arith)
+beside_used k xs j u i n p a (inl h) = get_apart 2 n _ (used_index_place k) p _ a ∙ grind (arith, below)
+beside_used k xs j u i n p a (inr h) = get_apart 2 n _ (used_index_place k) p _ a ∙ grind (arith, above)
 
 -- a whole descriptor, wherever its bytes are the same
 pub same_descriptor : (xs ys : List ℕ) (i : ℕ) → ((n p : ℕ) → descriptor_place i ≤ p → p + n ≤ descriptor_place i + 16 → get n ys p ≡ get n xs p) → descriptor_at ys i ≡ descriptor_at xs i
@@ -71,40 +59,25 @@ apart_slots width i j ne = split (dec_lt i j)
     split (no h) = let l : j < i = omega (arith, ne) in inr (omega (arith, mul-le-mul_left width l, mul-suc width j))
 
 pub other_descriptor : (xs : List ℕ) (i j : ℕ) (v : Descriptor) → i ≢ j → descriptor_at (put_descriptor xs j v) i ≡ descriptor_at xs i
-other_descriptor xs i j v ne = same_descriptor xs (put_descriptor xs j v) i (λ n p h l. beside_descriptor xs j v n p (side (apart_slots 16 i j ne) n p h l))
-  where
-    side : (16 * i + 16 ≤ 16 * j) ⊎ (16 * j + 16 ≤ 16 * i) → (n p : ℕ) → descriptor_place i ≤ p → p + n ≤ descriptor_place i + 16 → (p + n ≤ descriptor_place j) ⊎ (descriptor_place j + 16 ≤ p)
-    side (inl a) n p h l = inl (omega arith)
-    side (inr a) n p h l = inr (omega arith)
+other_descriptor xs i j v ne = let a = apart_slots 16 i j ne in same_descriptor xs (put_descriptor xs j v) i (λ n p h l. beside_descriptor xs j v n p (grind arith))
 
 pub same_descriptor_back : (xs : List ℕ) (j : ℕ) (v : Descriptor) → v.start < 2 ^ 64 → v.length < 2 ^ 32 → v.flags < 2 ^ 16 → v.next < 2 ^ 16 → descriptor_place j + 16 ≤ length xs → descriptor_at (put_descriptor xs j v) j ≡ v
 same_descriptor_back xs j v a b c d h = grind (arith, above, below, reads_back, length-put, mod-eq_of_lt)
 
 pub other_head : (k : ℕ) (xs : List ℕ) (i j h n : ℕ) → i ≢ j → head_at k (put_head k xs j h n) i ≡ head_at k xs i
-other_head k xs i j h n ne = beside_head k xs j h n 2 (head_place k i) (inr (omega arith)) (side (apart_slots 2 i j ne))
-  where
-    side : (2 * i + 2 ≤ 2 * j) ⊎ (2 * j + 2 ≤ 2 * i) → (head_place k i + 2 ≤ head_place k j) ⊎ (head_place k j + 2 ≤ head_place k i)
-    side (inl a) = inl (omega arith)
-    side (inr a) = inr (omega arith)
+other_head k xs i j h n ne = let a = apart_slots 2 i j ne in beside_head k xs j h n 2 (head_place k i) (inr (omega arith)) (grind arith)
 
 pub head_back : (k : ℕ) (xs : List ℕ) (j h n : ℕ) → h < 2 ^ 16 → head_place k j + 2 ≤ length xs → head_at k (put_head k xs j h n) j ≡ h
-head_back k xs j h n f l = above 2 2 _ (index_place k) (head_place k j) _ (omega arith) ∙ reads_back 2 xs (head_place k j) h l ∙ mod-eq_of_lt f
+head_back k xs j h n f l = grind (arith, above, reads_back, mod-eq_of_lt)
 
 pub index_back : (k : ℕ) (xs : List ℕ) (j h n : ℕ) → n < 2 ^ 16 → index_place k + 2 ≤ length xs → get 2 (put_head k xs j h n) (index_place k) ≡ n
-index_back k xs j h n f l = let e = length-put 2 xs (head_place k j) h in reads_back 2 _ (index_place k) n (omega arith) ∙ mod-eq_of_lt f
+index_back k xs j h n f l = grind (arith, reads_back, length-put, mod-eq_of_lt)
 
 pub other_used : (k : ℕ) (xs : List ℕ) (i j : ℕ) (u : UsedElement) (n : ℕ) → i ≢ j → used_at k (put_used k xs j u n) i ≡ used_at k xs i
-other_used k xs i j u n ne = same_used k xs (put_used k xs j u n) i (λ m p h l. beside_used k xs j u n m p (inr (omega arith)) (side (apart_slots 8 i j ne) m p h l))
-  where
-    side : (8 * i + 8 ≤ 8 * j) ⊎ (8 * j + 8 ≤ 8 * i) → (m p : ℕ) → used_place k i ≤ p → p + m ≤ used_place k i + 8 → (p + m ≤ used_place k j) ⊎ (used_place k j + 8 ≤ p)
-    side (inl a) m p h l = inl (omega arith)
-    side (inr a) m p h l = inr (omega arith)
+other_used k xs i j u n ne = let a = apart_slots 8 i j ne in same_used k xs (put_used k xs j u n) i (λ m p h l. beside_used k xs j u n m p (inr (omega arith)) (grind arith))
 
 pub used_back : (k : ℕ) (xs : List ℕ) (j : ℕ) (u : UsedElement) (n : ℕ) → u.head < 2 ^ 32 → u.written < 2 ^ 32 → used_place k j + 8 ≤ length xs → used_at k (put_used k xs j u n) j ≡ u
 used_back k xs j u n f g l = grind (arith, above, below, reads_back, length-put, mod-eq_of_lt)
 
 pub used_index_back : (k : ℕ) (xs : List ℕ) (j : ℕ) (u : UsedElement) (n : ℕ) → n < 2 ^ 16 → used_index_place k + 2 ≤ length xs → get 2 (put_used k xs j u n) (used_index_place k) ≡ n
-used_index_back k xs j u n f l =
-    let a = length-put 4 xs (used_place k j) u.head in
-    let b = length-put 4 (put 4 xs (used_place k j) u.head) (used_place k j + 4) u.written in
-    reads_back 2 _ (used_index_place k) n (omega arith) ∙ mod-eq_of_lt f
+used_index_back k xs j u n f l = grind (arith, reads_back, length-put, mod-eq_of_lt)

@@ -11,7 +11,7 @@ use Rattle.entries.specs.Typed.{Typed, TypedSegment}
 use Rattle.positions.proofs.Modulo.{places_apart}
 use Rattle.split_ring.specs.declared.descriptors.Descriptor.{Descriptor}
 use Rattle.split_ring.specs.Slots.{driver_area, descriptor_at}
-use Rattle.split_ring.specs.Chains.{more, link, laid, Chain, goes_on, segment_of, entry_of, after_first, after_second, chain_read}
+use Rattle.split_ring.specs.Chains.{more, link, laid, ChainLies, goes_on, segment_of, entry_of, after_first, after_second, chain_read}
 use Rattle.split_ring.proofs.Bytes.{length-descriptor, beside_descriptor, other_descriptor, same_descriptor_back}
 
 pub length-laid : (k : ℕ) (xs : List ℕ) (d : ℕ) (e : Entry) (n : ℕ) → length (laid k xs d e n) ≡ length xs
@@ -34,14 +34,10 @@ other_laid k xs d e zero i f = refl
 other_laid k xs d e (suc n) i f = other_descriptor (laid k xs d e n) i ((d + n) % k) _ (f n (omega arith)) ∙ other_laid k xs d e n i (λ j h. f j (omega arith))
 
 link_flags : (w m : Bool) → cond w 2 0 + cond m 1 0 < 2 ^ 16
-link_flags true true = omega arith
-link_flags true false = omega arith
-link_flags false true = omega arith
-link_flags false false = omega arith
+link_flags w m = grind (arith, nat_tests)
 
 link_next : (m : Bool) (n : ℕ) → n < 2 ^ 16 → cond m n 0 < 2 ^ 16
-link_next true n h = h
-link_next false n h = omega arith
+link_next m n h = grind (arith, nat_tests)
 
 -- each of the first n segments lies in its descriptor
 pub laid_lies : (k : ℕ) (xs : List ℕ) (d : ℕ) (e : Entry) (n : ℕ) → 0 < k → k ≤ 1024 → n ≤ k → driver_area k ≤ length xs
@@ -99,7 +95,7 @@ same_entry e n a b c l m x y z =
     let s = three e.segments l in
     λ i. record { tag = e.tag; count = sym m i; segments = (ap₂ (λ (p q : Segment). p ∷ q ∷ c ∷ []) (sym x) (sym y) ∙ ap (λ (q : Segment). place e 0 ∷ place e 1 ∷ q ∷ []) (sym z) ∙ sym s) i }
 
-module _ (xs : List ℕ) (k d : ℕ) (e : Entry) (g : Legal e) (t : Typed e) (c : Chain (descriptor_at xs) k d e) where
+module _ (xs : List ℕ) (k d : ℕ) (e : Entry) (g : Legal e) (t : Typed e) (c : ChainLies (descriptor_at xs) k d e) where
   -- the descriptor of segment i, with where it goes on
   abbrev on_from : ℕ → ℕ
   on_from i = (d + i + 1) % k

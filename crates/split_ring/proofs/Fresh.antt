@@ -1,8 +1,7 @@
 -- A ring in which nothing has moved yet: the lists are empty.
-use Rattle.std.proofs.Common.{◌≡◌, [], sym, refl, ap, ◌∙◌, arith}
+use Rattle.std.proofs.Common.{◌≡◌, [], refl, arith}
 use Rattle.words.specs.Numbers.{get}
 use Rattle.queue.specs.Lists.{Run}
-use Rattle.split_ring.specs.declared.cursors.Cursor.{Cursor}
 use Rattle.split_ring.specs.Slots.{index_place, used_index_place}
 use Rattle.split_ring.specs.Ring.{Ring}
 use Rattle.split_ring.specs.Sound.{Holds, Idle}
@@ -17,15 +16,15 @@ fresh_holds r i a b = record {
     outs = (refl, refl);
     within = omega arith;
     capacity_is = refl;
-    collected_at = ap (λ (c : Cursor). c.position) i.collected_none;
-    finished_at = ap (λ (c : Cursor). c.position) i.finished_none;
-    taken_at = ap (λ (c : Cursor). c.position) i.taken_none;
-    published_at = ap (λ (c : Cursor). c.position) i.published_none;
+    collected_at = cc;
+    finished_at = cc;
+    taken_at = cc;
+    published_at = cc;
   };
-  collected_from = ap (λ (c : Cursor). c.descriptor) i.collected_none;
-  finished_from = ap (λ (c : Cursor). c.descriptor) i.finished_none;
-  taken_from = ap (λ (c : Cursor). c.descriptor) i.taken_none;
-  published_from = ap (λ (c : Cursor). c.descriptor) i.published_none;
-  index_is = a ∙ sym (ap (λ (c : Cursor). c.position) i.published_none);
-  used_index_is = b ∙ sym (ap (λ (c : Cursor). c.position) i.finished_none);
+  collected_from = cc;
+  finished_from = cc;
+  taken_from = cc;
+  published_from = cc;
+  index_is = cc;
+  used_index_is = cc;
 }

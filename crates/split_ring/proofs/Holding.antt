@@ -1,6 +1,7 @@
 -- What lies in a ring is what is read off it, and stays where two views agree.
-use Rattle.std.proofs.Common.{◌≡◌, ℕ, ◌+◌, ◌%◌, ◌<◌, ◌≤◌, true, ◌↔◌, List, [], ◌∷◌, length, get_or, sym, refl, ap, ◌∙◌, ap₂, arith}
+use Rattle.std.proofs.Common.{◌≡◌, ℕ, ◌+◌, ◌%◌, ◌<◌, ◌≤◌, true, ◌↔◌, List, [], ◌∷◌, length, sym, refl, ap, ◌∙◌, ap₂, arith}
 use native.Mathlib.Nat.{mod-mod}
+use Rattle.std.proofs.lemmas.List.{nil_from_length}
 use Rattle.entries.specs.declared.shapes.Entry.{Entry}
 use Rattle.entries.specs.Legality.{legal}
 use Rattle.entries.proofs.Judged.{legal_decides}
@@ -14,11 +15,12 @@ use Rattle.queue.specs.Rules.{entries_of, segments_of}
 use Rattle.queue.specs.Lists.{read_off, Cuts, Keeps, Spread}
 use Rattle.queue.proofs.Runs.{run_read, run_all, total_ones}
 use Rattle.queue.proofs.Ends.{Orderly, spread, narrow, back_ends, held_ends, out_ends, used_places}
+use Rattle.split_ring.specs.declared.kept.Chain.{Chain}
 use Rattle.split_ring.specs.declared.rings.UsedElement.{UsedElement}
 use Rattle.split_ring.specs.Cursors.{modulus}
 use Rattle.split_ring.specs.Chains.{chain_read}
-use Rattle.split_ring.specs.Ring.{Ring, one, entry_in, head_in, finished_in, used_head, entries_in, segments_in, busy, outs, helds, backs, meaning}
-use Rattle.split_ring.specs.Sound.{View, view, EntryLies, FinishedLies, layout, Holds, Shape}
+use Rattle.split_ring.specs.Ring.{Ring, chain_at, one, entry_in, head_in, finished_in, used_head, entries_in, segments_in, busy, outs, helds, backs, meaning}
+use Rattle.split_ring.specs.Sound.{View, view, EntryLies, FinishedLies, layout, Holds, Live, Shape}
 use Rattle.split_ring.proofs.Chains.{reads_entry}
 
 -- what two views have to share for the lists to stay
@@ -26,8 +28,7 @@ pub record Agree (v w : View) (k : ℕ) (c : Cuts) : Type 0 where
   pub descriptors : (i : ℕ) → c.d1 ≤ i → i < c.d3 → w.descriptor (i % k) ≡ v.descriptor (i % k)
   pub heads : (i : ℕ) → c.p1 ≤ i → i < c.p3 → w.head (i % k) ≡ v.head (i % k)
   pub useds : (i : ℕ) → c.p0 ≤ i → i < c.p1 → w.used (i % k) ≡ v.used (i % k)
-  pub tags : (i : ℕ) → c.d0 ≤ i → i < c.d3 → w.tag (i % k) ≡ v.tag (i % k)
-  pub counts : (i : ℕ) → c.d0 ≤ i → i < c.d3 → w.count (i % k) ≡ v.count (i % k)
+  pub kept : (i : ℕ) → c.d0 ≤ i → i < c.d3 → w.kept (i % k) ≡ v.kept (i % k)
 
 some_of : (e : Entry) → legal e ≡ true → 1 ≤ e.count
 some_of e h = ((legal_decides e).0 h).some_segment
@@ -38,8 +39,8 @@ back_keeps v w k c le a d p f h1 h2 h3 h4 t =
     let n = t.span_is in
     record {
       used_is = a.useds p h3 (omega arith) ∙ t.used_is;
-      tag_is = a.tags d h1 (omega arith) ∙ t.tag_is;
-      count_is = a.counts d h1 (omega arith) ∙ t.count_is;
+      tag_is = ap (λ (x : Chain). x.tag) (a.kept d h1 (omega arith)) ∙ t.tag_is;
+      count_is = ap (λ (x : Chain). x.count) (a.kept d h1 (omega arith)) ∙ t.count_is;
       span_is = n;
       some = s;
     }
@@ -49,8 +50,8 @@ out_keeps v w k c le a d p e h1 h2 h3 h4 t =
     let s = some_of e t.is_legal in
     record {
       head_is = a.heads p h3 (omega arith) ∙ t.head_is;
-      tag_is = a.tags d (omega arith) (omega arith) ∙ t.tag_is;
-      count_is = a.counts d (omega arith) (omega arith) ∙ t.count_is;
+      tag_is = ap (λ (x : Chain). x.tag) (a.kept d (omega arith) (omega arith)) ∙ t.tag_is;
+      count_is = ap (λ (x : Chain). x.count) (a.kept d (omega arith) (omega arith)) ∙ t.count_is;
       is_legal = t.is_legal;
       is_typed = t.is_typed;
       chain = λ i l. a.descriptors (d + i) (omega arith) (omega arith) ∙ t.chain i l;
@@ -69,7 +70,7 @@ unfolding entry_in
 entry_found r d p e a =
     let k = r.size in
     let h : head_in r (p % k) ≡ d % k = ap (λ n. n % k) a.head_is ∙ mod-mod d k in
-    let t : get_or r.tags (head_in r (p % k)) 0 ≡ e.tag = ap (λ n. get_or r.tags n 0) h ∙ a.tag_is in
+    let t : (chain_at r (head_in r (p % k))).tag ≡ e.tag = ap (λ n. (chain_at r n).tag) h ∙ a.tag_is in
     ap₂ (chain_read r.bytes k) h t ∙ reads_entry r.bytes k d e ((legal_decides e).0 a.is_legal) a.is_typed a.chain
 
 pub finished_found : (r : Ring) (d p : ℕ) (f : Finished) → FinishedLies (view r) r.size d p f → finished_in r (p % r.size) ≡ f
@@ -78,8 +79,8 @@ finished_found r d p f a =
     let k = r.size in
     let u = a.used_is in
     let h : used_head r (p % k) ≡ d % k = ap (λ (x : UsedElement). x.head % k) u ∙ mod-mod d k in
-    let t : get_or r.tags (used_head r (p % k)) 0 ≡ f.tag = ap (λ n. get_or r.tags n 0) h ∙ a.tag_is in
-    let n : get_or r.counts (used_head r (p % k)) 0 ≡ f.count = ap (λ n. get_or r.counts n 0) h ∙ a.count_is in
+    let t : (chain_at r (used_head r (p % k))).tag ≡ f.tag = ap (λ n. (chain_at r n).tag) h ∙ a.tag_is in
+    let n : (chain_at r (used_head r (p % k))).count ≡ f.count = ap (λ n. (chain_at r n).count) h ∙ a.count_is in
     let s = sym a.span_is in
     λ i. record { tag = t i; span = s i; count = n i; written = (u i).written }
 
@@ -87,12 +88,31 @@ spans_one : (fs : List Finished) → All (λ (f : Finished). f.span ≡ 1) fs �
 spans_one [] a = refl
 spans_one (f ∷ fs) a = let r = spans_one fs a.1 in let s = a.0 in omega arith
 
-module _ (r : Ring) (s : Shape r) (back : List Finished) (held out : List Entry) (h : Holds r back held out) where
+-- the meaning of a ring in which these lists lie
+abbrev pub meant : (r : Ring) → Live r → Meaning
+meant r l = meaning r l.back l.held l.out
+
+module _ (r : Ring) (l : Live r) where
+  abbrev s : Shape r
+  s = l.shape
+
+  abbrev h : Holds r l.back l.held l.out
+  h = l.holds
+
+  abbrev back : List Finished
+  back = l.back
+
+  abbrev held : List Entry
+  held = l.held
+
+  abbrev out : List Entry
+  out = l.out
+
   abbrev c : Cuts
   c = h.cuts
 
   abbrev m : Meaning
-  m = meaning r back held out
+  m = meant r l
 
   pub holds_spread : Spread r.size c
   holds_spread = spread (layout (view r) r.size) r.size m c h.lists
@@ -131,7 +151,7 @@ module _ (r : Ring) (s : Shape r) (back : List Finished) (held out : List Entry)
   few =
       let sp = holds_spread in
       let na = holds_narrow in
-      let top = s.most in
+      let top = s.serves.most in
       let a = long_back in
       let b = long_held in
       let e = long_out in
@@ -140,7 +160,7 @@ module _ (r : Ring) (s : Shape r) (back : List Finished) (held out : List Entry)
   few_segments : (total back_count back < modulus) × (total count_of held < modulus) × (total count_of out < modulus)
   few_segments =
       let sp = holds_spread in
-      let top = s.most in
+      let top = s.serves.most in
       let a = ends_back.0 in
       let b = ends_held.0 in
       let e = ends_out.0 in
@@ -160,7 +180,7 @@ module _ (r : Ring) (s : Shape r) (back : List Finished) (held out : List Entry)
   busy_counted =
       let u = used_places (layout (view r) r.size) r.size m c h.lists in
       let w = h.lists.within in
-      let top = s.most in
+      let top = s.serves.most in
       apart c.d0 c.d3 (in_use m) r.collected.descriptor r.published.descriptor h.collected_from h.published_from u (omega arith)
 
   pub same_slot : (p n : ℕ) → n ≡ p % modulus → n % r.size ≡ p % r.size
@@ -192,14 +212,10 @@ module _ (r : Ring) (s : Shape r) (back : List Finished) (held out : List Entry)
   -- a list is empty exactly where its two positions are the same
   none_between : {X : Type 0} (xs : List X) (p q a b : ℕ) → a ≡ p % modulus → b ≡ q % modulus → q ≡ p + length xs → length xs < modulus → (a ≡ b) ↔ (xs ≡ [])
   none_between xs p q a b ea eb e l = (
-    (λ z. no_length xs (same_length p q (length xs) a b ea eb e l z)),
+    (λ z. nil_from_length xs (same_length p q (length xs) a b ea eb e l z)),
     (λ z. let n : length xs ≡ 0 = ap length z in ea ∙ ap (λ x. x % modulus) (let y : p ≡ q = omega arith in y) ∙ sym eb),
   )
     where
-      no_length : {X : Type 0} (xs : List X) → length xs ≡ 0 → xs ≡ []
-      no_length [] h = refl
-      no_length (x ∷ xs) h = absurd (omega arith)
-
       same_length : (p q n a b : ℕ) → a ≡ p % modulus → b ≡ q % modulus → q ≡ p + n → n < modulus → a ≡ b → n ≡ 0
       same_length p q n a b ea eb e l z = omega arith
 

@@ -1,5 +1,5 @@
 -- A split queue as bytes and numbers: what each call answers and leaves, for every state. Assumes nothing.
-use Rattle.std.specs.Prelude.{ℕ, ◌-◌, ◌%◌, Bool, true, false, cond, not, ◌&&◌, List, length, Some, None, Option, ◌==◌, nat_eq, nat_le, nat_lt, slice_index, slice_set}
+use Rattle.std.specs.Prelude.{ℕ, ◌-◌, ◌%◌, Bool, true, false, cond, not, ◌&&◌, List, Some, None, Option, ◌==◌, nat_eq, nat_le, nat_lt, slice_index_or, slice_set}
 use Rattle.words.specs.Numbers.{get, put}
 use Rattle.entries.specs.declared.refusals.Refusal.{Refusal}
 use Rattle.entries.specs.declared.refusals.Refusal.TheVariants.{BadEntry, BadMark, NoRoom, NothingHeld}
@@ -8,7 +8,6 @@ use Rattle.entries.specs.Legality.{legal}
 use Rattle.entries.specs.Refusals.{refuse, unless, kept}
 use Rattle.positions.specs.Stretch.{ahead, in_stretch}
 use Rattle.queue.specs.declared.values.Side.{Side}
-use Rattle.queue.specs.declared.values.Side.TheVariants.{Driver, Device}
 use Rattle.queue.specs.declared.values.Position.{Position}
 use Rattle.queue.specs.declared.values.Position.TheVariants as P
 use Rattle.queue.specs.declared.values.Stage.{Stage}
@@ -16,10 +15,13 @@ use Rattle.queue.specs.declared.values.Stage.TheVariants.{Out, Held, Back}
 use Rattle.queue.specs.declared.values.Finished.{Finished}
 use Rattle.queue.specs.Meaning.{Meaning, untouched, back_span}
 use Rattle.queue.specs.Laws.{Ops}
+use Rattle.queue.specs.Calls.{inbox}
 use Rattle.queue.specs.Lists.{read_off}
+use Rattle.split_ring.specs.declared.kept.Chain.{Chain}
 use Rattle.split_ring.specs.declared.cursors.Cursor.{Cursor}
 use Rattle.split_ring.specs.Cursors.{modulus, moved}
-use Rattle.split_ring.specs.Slots.{region_size, index_place, used_index_place, head_at, put_head, used_at, put_used, watch_place, watch_word}
+use Rattle.split_ring.specs.Lent.{serves}
+use Rattle.split_ring.specs.Slots.{index_place, used_index_place, head_at, put_head, used_at, put_used, watch_place, watch_word}
 use Rattle.split_ring.specs.Chains.{laid, chain_read}
 
 pub record Ring : Type 0 where
@@ -31,9 +33,8 @@ pub record Ring : Type 0 where
   pub taken : Cursor
   pub finished : Cursor
   pub collected : Cursor
-  -- by the first descriptor of a chain, its tag and how many segments it has
-  pub tags : List ℕ
-  pub counts : List ℕ
+  -- by the first descriptor of a chain
+  pub chains : List Chain
 
 -- the same ring with other bytes, with its cursors elsewhere, or with other chains kept by their first descriptor
 abbrev pub with_bytes : List ℕ → Ring → Ring
@@ -45,8 +46,7 @@ with_bytes bytes r = record {
   taken = r.taken;
   finished = r.finished;
   collected = r.collected;
-  tags = r.tags;
-  counts = r.counts;
+  chains = r.chains;
 }
 
 abbrev pub at_cursors : Cursor → Cursor → Cursor → Cursor → Ring → Ring
@@ -58,12 +58,11 @@ at_cursors published taken finished collected r = record {
   taken = taken;
   finished = finished;
   collected = collected;
-  tags = r.tags;
-  counts = r.counts;
+  chains = r.chains;
 }
 
-abbrev pub with_chains : List ℕ → List ℕ → Ring → Ring
-with_chains tags counts r = record {
+abbrev pub with_chains : List Chain → Ring → Ring
+with_chains chains r = record {
   bytes = r.bytes;
   size = r.size;
   events = r.events;
@@ -71,13 +70,12 @@ with_chains tags counts r = record {
   taken = r.taken;
   finished = r.finished;
   collected = r.collected;
-  tags = tags;
-  counts = counts;
+  chains = chains;
 }
 
 -- a ring whose numbers its region can serve; any other has capacity 0 and does nothing
-unfoldable pub alive : Ring → Bool
-alive r = nat_le 4 r.size && (nat_le r.size 1024 && nat_le (region_size r.size) (length r.bytes))
+abbrev pub alive : Ring → Bool
+alive r = serves r.size r.bytes
 
 abbrev pub capacity : Ring → ℕ
 capacity r = cond (alive r) r.size 0
@@ -85,9 +83,28 @@ capacity r = cond (alive r) r.size 0
 abbrev pub modulus_of : Ring → ℕ
 modulus_of r = cond (alive r) modulus 1
 
+-- what is kept of the chain that starts at descriptor j
+abbrev pub no_chain : Chain
+no_chain = record { tag = 0; count = 0 }
+
+abbrev pub chain_at : Ring → ℕ → Chain
+chain_at r j = slice_index_or r.chains j no_chain
+
 -- the segments in the three lists
 abbrev pub busy : Ring → ℕ
 busy r = ahead modulus r.collected.descriptor r.published.descriptor
+
+-- the cursor of a move, and the two that a stage lies between: of the move out of it, and of the move into it
+abbrev pub cursor_in : Ring → Position → Cursor
+cursor_in r P.Published = r.published
+cursor_in r P.Taken = r.taken
+cursor_in r P.Finished = r.finished
+cursor_in r P.Collected = r.collected
+
+abbrev pub ends : Ring → Stage → Cursor × Cursor
+ends r Out = (r.taken, r.published)
+ends r Held = (r.finished, r.taken)
+ends r Back = (r.collected, r.finished)
 
 -- the slot and the first descriptor of a cursor
 abbrev pub slot : Ring → Cursor → ℕ
@@ -108,7 +125,7 @@ with_entry r e =
     let d = first r r.published in
     let next = moved r.published e.count in
     with_bytes (put_head r.size (laid r.size r.bytes d e e.count) (slot r r.published) d next.position)
-    (with_chains (slice_set r.tags d e.tag) (slice_set r.counts d e.count)
+    (with_chains (slice_set r.chains d (record { tag = e.tag; count = e.count }))
     (at_cursors next r.taken r.finished r.collected r))
 
 -- TAKE: something is out when the driver's index has gone past the device's own position. A head is taken below the capacity
@@ -119,7 +136,7 @@ abbrev pub head_in : Ring → ℕ → ℕ
 head_in r j = head_at r.size r.bytes j % r.size
 
 unfoldable pub entry_in : Ring → ℕ → Entry
-entry_in r j = chain_read r.bytes r.size (head_in r j) (slice_index r.tags (head_in r j))
+entry_in r j = chain_read r.bytes r.size (head_in r j) (chain_at r (head_in r j)).tag
 
 abbrev pub oldest_out : Ring → Entry
 oldest_out r = entry_in r (slot r r.taken)
@@ -135,7 +152,7 @@ abbrev pub held_head : Ring → ℕ
 held_head r = head_in r (slot r r.finished)
 
 abbrev pub held_count : Ring → ℕ
-held_count r = slice_index r.counts (held_head r)
+held_count r = (chain_at r (held_head r)).count
 
 abbrev pub with_finished : Ring → ℕ → Ring
 with_finished r n =
@@ -152,9 +169,9 @@ used_head r j = (used_at r.size r.bytes j).head % r.size
 
 unfoldable pub finished_in : Ring → ℕ → Finished
 finished_in r j = record {
-  tag = slice_index r.tags (used_head r j);
+  tag = (chain_at r (used_head r j)).tag;
   span = 1;
-  count = slice_index r.counts (used_head r j);
+  count = (chain_at r (used_head r j)).count;
   written = (used_at r.size r.bytes j).written;
 }
 
@@ -166,8 +183,7 @@ with_collected r = at_cursors r.published r.taken r.finished (moved r.collected 
 
 -- ARM and HUSH: with events, arm writes the side's own position and hush nothing; with flags, arm writes 0 and hush 1
 abbrev pub own : Ring → Side → ℕ
-own r Driver = r.collected.position
-own r Device = r.taken.position
+own r s = (ends r (inbox s)).0.position
 
 abbrev pub with_word : Ring → Side → ℕ → Ring
 with_word r s n = with_bytes (put 2 r.bytes (watch_place r.events s r.size) n) r
@@ -182,8 +198,7 @@ watch_by false w p = w == 0
 
 -- THE WAKE-UP QUESTION, by the same word
 abbrev pub come : Ring → Side → ℕ
-come r Driver = r.finished.position
-come r Device = r.published.position
+come r s = (ends r (inbox s)).1.position
 
 abbrev pub rings_at : Bool → ℕ → ℕ → ℕ → Bool
 rings_at true w mark to = in_stretch modulus mark to w
@@ -191,20 +206,13 @@ rings_at false w mark to = w == 0 && not (mark == to)
 
 -- WHAT CAN BE READ
 abbrev pub position_in : Ring → Position → ℕ
-position_in r P.Published = r.published.position
-position_in r P.Taken = r.taken.position
-position_in r P.Finished = r.finished.position
-position_in r P.Collected = r.collected.position
+position_in r p = (cursor_in r p).position
 
 abbrev pub entries_in : Ring → Stage → ℕ
-entries_in r Out = ahead modulus r.taken.position r.published.position
-entries_in r Held = ahead modulus r.finished.position r.taken.position
-entries_in r Back = ahead modulus r.collected.position r.finished.position
+entries_in r s = let e = ends r s in ahead modulus e.0.position e.1.position
 
 abbrev pub segments_in : Ring → Stage → ℕ
-segments_in r Out = ahead modulus r.taken.descriptor r.published.descriptor
-segments_in r Held = ahead modulus r.finished.descriptor r.taken.descriptor
-segments_in r Back = ahead modulus r.collected.descriptor r.finished.descriptor
+segments_in r s = let e = ends r s in ahead modulus e.0.descriptor e.1.descriptor
 
 -- WHAT IT MEANS: the lists are read off the region, between the positions
 abbrev pub one : {X : Type 0} → X → ℕ

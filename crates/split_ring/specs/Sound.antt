@@ -1,48 +1,48 @@
 -- The rings that keep their meaning: what lies where in one.
-use Rattle.std.specs.Prelude.{◌≡◌, ℕ, ◌%◌, ◌≤◌, Bool, true, false, List, length, slice_index}
+use Rattle.std.specs.Prelude.{◌≡◌, ℕ, ◌%◌, ◌≤◌, Bool, true, false, List, length}
 use Rattle.words.specs.Numbers.{get}
 use Rattle.entries.specs.declared.shapes.Entry.{Entry}
 use Rattle.entries.specs.Legality.{legal}
 use Rattle.entries.specs.Typed.{Typed}
 use Rattle.queue.specs.declared.values.Finished.{Finished}
 use Rattle.queue.specs.Lists.{Layout, Cuts, Lists}
+use Rattle.split_ring.specs.declared.kept.Chain.{Chain}
 use Rattle.split_ring.specs.declared.descriptors.Descriptor.{Descriptor}
 use Rattle.split_ring.specs.declared.rings.UsedElement.{UsedElement}
 use Rattle.split_ring.specs.Cursors.{modulus, start}
-use Rattle.split_ring.specs.Slots.{region_size, index_place, used_index_place, descriptor_at, head_at, used_at}
-use Rattle.split_ring.specs.Chains.{Chain}
-use Rattle.split_ring.specs.Ring.{Ring, alive, meaning}
+use Rattle.split_ring.specs.Lent.{Serves}
+use Rattle.split_ring.specs.Slots.{index_place, used_index_place, descriptor_at, head_at, used_at}
+use Rattle.split_ring.specs.Chains.{ChainLies}
+use Rattle.split_ring.specs.Ring.{Ring, alive, chain_at, meaning}
 
--- a ring as five rows of slots
+-- a ring as four rows of slots
 pub record View : Type 0 where
   pub descriptor : ℕ → Descriptor
   pub head : ℕ → ℕ
   pub used : ℕ → UsedElement
-  pub tag : ℕ → ℕ
-  pub count : ℕ → ℕ
+  pub kept : ℕ → Chain
 
 abbrev pub view : Ring → View
 view r = record {
   descriptor = descriptor_at r.bytes;
   head = head_at r.size r.bytes;
   used = used_at r.size r.bytes;
-  tag = λ j. slice_index r.tags j;
-  count = λ j. slice_index r.counts j;
+  kept = chain_at r;
 }
 
 -- an entry of position p whose chain starts at descriptor d
 pub record EntryLies (v : View) (k d p : ℕ) (e : Entry) : Type 0 where
   pub head_is : v.head (p % k) ≡ d % k
-  pub tag_is : v.tag (d % k) ≡ e.tag
-  pub count_is : v.count (d % k) ≡ e.count
+  pub tag_is : (v.kept (d % k)).tag ≡ e.tag
+  pub count_is : (v.kept (d % k)).count ≡ e.count
   pub is_legal : legal e ≡ true
   pub is_typed : Typed e
-  pub chain : Chain v.descriptor k d e
+  pub chain : ChainLies v.descriptor k d e
 
 pub record FinishedLies (v : View) (k d p : ℕ) (f : Finished) : Type 0 where
   pub used_is : v.used (p % k) ≡ record { head = d % k; written = f.written }
-  pub tag_is : v.tag (d % k) ≡ f.tag
-  pub count_is : v.count (d % k) ≡ f.count
+  pub tag_is : (v.kept (d % k)).tag ≡ f.tag
+  pub count_is : (v.kept (d % k)).count ≡ f.count
   pub span_is : f.span ≡ 1
   pub some : 1 ≤ f.count
 
@@ -61,12 +61,9 @@ pub record Holds (r : Ring) (back : List Finished) (held out : List Entry) : Typ
   pub used_index_is : get 2 r.bytes (used_index_place r.size) ≡ r.finished.position
 
 pub record Shape (r : Ring) : Type 0 where
-  pub least : 4 ≤ r.size
-  pub most : r.size ≤ 1024
+  pub serves : Serves r.size r.bytes
   pub whole : modulus % r.size ≡ 0
-  pub long : region_size r.size ≤ length r.bytes
-  pub tags_long : length r.tags ≡ 1024
-  pub counts_long : length r.counts ≡ 1024
+  pub chains_long : length r.chains ≡ 1024
 
 -- some lists lie in it
 pub record Live (r : Ring) : Type 0 where

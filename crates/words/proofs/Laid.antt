@@ -1,7 +1,7 @@
 -- What a write to a part leaves: the part reads back, and what lies apart stays.
-use Rattle.std.proofs.Common.{◌≡◌, ℕ, ◌+◌, ◌-◌, ◌<◌, ◌≤◌, true, leb, ◌⊎◌, List, [], ◌∷◌, ◌++◌, length, get_or, take, drop, sym, ap, ◌∙◌, inl, inr, arith, rules}
+use Rattle.std.proofs.Common.{◌≡◌, ℕ, ◌+◌, ◌-◌, ◌<◌, ◌≤◌, true, false, leb, ◌⊎◌, List, [], ◌∷◌, ◌++◌, length, get_or, take, drop, replicate, sym, ap, ◌∙◌, inl, inr, arith, rules}
 use borrow.Rule.Slice.PartMut.{put_mid}
-use Rattle.std.proofs.lemmas.List.{places, same_lists, length-take, length-drop, take_at, drop_at, get_or-take, get_or-drop, drop-drop, get_or_at}
+use Rattle.std.proofs.lemmas.List.{places, same_lists, length-take, length-drop, take_at, drop_at, get_or-take, length-replicate, get_or-drop, drop-drop, get_or_at}
 use Rattle.std.proofs.lemmas.Bool.Decides.{leb_tells, nat_tests}
 use Rattle.words.specs.Bytes.{part, overwrite}
 
@@ -100,3 +100,23 @@ pub part_written : (at : ℕ) (new xs : List ℕ) → true ≡ leb (at + length 
 part_written at new xs h =
     let w : at + length new ≤ length xs = grind (arith, nat_tests) in
     ap (λ (ys : List ℕ). take at xs ++ (new ++ ys)) (drop-drop (length new) at xs) ∙ sym (overwrite_within at new xs w)
+
+-- the same with the lengths that slicing gives, and where the test said that the part does not lie within
+pub part_sliced : (at k : ℕ) (xs : List ℕ) → true ≡ leb (at + k) (length xs) → take (at + k - at) (drop at xs) ≡ part at k xs
+part_sliced at k xs h = let n : at + k - at ≡ k = omega arith in ap (λ j. take j (drop at xs)) n ∙ part_read at k xs h
+
+pub part_not_read : (at k : ℕ) (xs : List ℕ) → false ≡ leb (at + k) (length xs) → [] ≡ part at k xs
+unfolding part
+part_not_read at k xs h = grind (arith, nat_tests)
+
+pub slice_written : (at k : ℕ) (new xs : List ℕ) → true ≡ leb (at + k) (length xs) → length new ≡ k → put_mid at (at + k - at) xs new ≡ overwrite at new xs
+slice_written at k new xs h l =
+    let n : at + k - at ≡ length new = omega arith in
+    ap (λ j. put_mid at j xs new) n ∙ part_written at new xs (h ∙ ap (λ j. leb (at + j) (length xs)) (sym l))
+
+pub slice_not_written : (at k : ℕ) (new xs : List ℕ) → false ≡ leb (at + k) (length xs) → length new ≡ k → xs ≡ overwrite at new xs
+unfolding overwrite
+slice_not_written at k new xs h l = grind (arith, nat_tests)
+
+pub zeroes_not_written : (at k : ℕ) (xs : List ℕ) → false ≡ leb (at + k) (length xs) → xs ≡ overwrite at (replicate k 0) xs
+zeroes_not_written at k xs h = slice_not_written at k (replicate k 0) xs h (length-replicate {A = ℕ} k 0)

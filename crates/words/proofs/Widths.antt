@@ -34,7 +34,7 @@ unfoldable pub each : ℕ → ℕ → ℕ → List ℕ → List ℕ
 each zero at i xs = []
 each (suc k) at i xs = get_or xs (at + i) 0 ∷ each k at (i + 1) xs
 
-taken_each : (k at i : ℕ) (xs : List ℕ) → at + i + k ≤ length xs → take k (drop (at + i) xs) ≡ each k at i xs
+pub taken_each : (k at i : ℕ) (xs : List ℕ) → at + i + k ≤ length xs → take k (drop (at + i) xs) ≡ each k at i xs
 unfolding each
 taken_each zero at i xs h = refl
 taken_each (suc k) at i xs h =
@@ -43,7 +43,7 @@ taken_each (suc k) at i xs h =
     ∙ ap (λ j. get_or xs (at + i) 0 ∷ take k (drop j xs)) e
     ∙ ap (λ (ys : List ℕ). get_or xs (at + i) 0 ∷ ys) (taken_each k at (i + 1) xs (omega arith))
 
--- the code's read of k bytes, where the test said that they lie within
+-- a number byte by byte, where its bytes lie within
 pub get_inside : (k at : ℕ) (xs : List ℕ) → true ≡ leb (at + k) (length xs) → get k xs at ≡ value (each k at 0 xs)
 unfolding get
 get_inside k at xs h =

@@ -1,14 +1,6 @@
 -- Numbers in a list of bytes, the least byte first. Assumes nothing.
-use Rattle.std.specs.Prelude.{ℕ, zero, suc, ◌+◌, ◌*◌, ◌/◌, ◌%◌, List, [], ◌∷◌, slice_index}
+use Rattle.std.specs.Prelude.{ℕ, zero, suc, ◌+◌, ◌*◌, ◌/◌, ◌%◌, cond, List, [], ◌∷◌, length, ◌==◌}
 use Rattle.words.specs.Bytes.{part, overwrite}
-
--- the number in the two bytes from at on
-abbrev pub two : List ℕ → ℕ → ℕ
-two xs at = slice_index xs at + slice_index xs (at + 1) * 256
-
--- the number in the four bytes from at on
-abbrev pub four : List ℕ → ℕ → ℕ
-four xs at = slice_index xs at + slice_index xs (at + 1) * 256 + slice_index xs (at + 2) * 65536 + slice_index xs (at + 3) * 16777216
 
 -- n as k bytes
 unfoldable pub le : ℕ → ℕ → List ℕ
@@ -19,6 +11,10 @@ le (suc k) n = n % 256 ∷ le k (n / 256)
 unfoldable pub value : List ℕ → ℕ
 value [] = 0
 value (b ∷ bs) = b + 256 * value bs
+
+-- the number of exactly k bytes; 0 for any others
+unfoldable pub read : ℕ → List ℕ → ℕ
+read k xs = cond (length xs == k) (value xs) 0
 
 -- the number in the k bytes from at on; 0 where they are not all there
 unfoldable pub get : ℕ → List ℕ → ℕ → ℕ

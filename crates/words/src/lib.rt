@@ -5,5 +5,5 @@
 mod numbers;
 mod parts;
 
-pub use numbers::{get16, get32, get64, put16, put32, put64};
+pub use numbers::{Word, get, put};
 pub use parts::{overwrite, part, zero};

@@ -1,77 +1,96 @@
 // Little-endian numbers in a byte slice. One that does not lie wholly within is read as 0 and is not written.
-ghost use Rattle.std.specs.Prelude.{◌≡◌, ◌+◌, ◌*◌, ◌^◌, ◌≤◌, length};
-ghost use Rattle.words.specs.Numbers.{two, four, get, put};
+#![tactic(auto, using(crate::proofs::Reading::read_whole, crate::proofs::Reading::read_short, crate::proofs::Reading::read_long, crate::proofs::Reading::read_part), unfolding(crate::specs::Numbers::value, crate::specs::Numbers::le, crate::specs::Numbers::put, crate::proofs::Widths::each))]
 
-use crate::parts::{overwrite, within};
+ghost use Rattle.std.specs.Prelude.{◌≡◌, ℕ};
+ghost use Rattle.words.specs.Numbers.{read, get, put};
 
-// Numbers of two, four and eight bytes that are known to lie within.
-fn two_bytes(bytes: &[u8], at: usize) -> u16
-    requires { at + 2 ≤ length bytes.now }
-    ensures little_endian { result ≡ two bytes.now at }
-{
-    u16::from_le_bytes([bytes[at], bytes[at + 1]])
+use crate::parts::{overwrite, part};
+
+// A number of so many bytes.
+pub trait Word: Copy {
+    const SIZE: usize;
+
+    ghost SIZE: { ℕ };
+
+    ghost number: { Self → ℕ };
+
+    // The number that exactly so many bytes write; 0 for any others, and no `Option`: whatever the engine reads lies within, and a
+    // caller that knows it would have to say what it does otherwise.
+    fn read(bytes: &[u8]) -> Self
+        ensures little_endian { number result ≡ read SIZE bytes.now };
+
+    fn write(word: Self, bytes: &mut [u8], at: usize)
+        ensures little_endian { bytes.new ≡ put SIZE bytes.old at (number word) };
 }
 
-fn four_bytes(bytes: &[u8], at: usize) -> u32
-    requires { at + 4 ≤ length bytes.now }
-    ensures little_endian { result ≡ four bytes.now at }
-{
-    u32::from_le_bytes([bytes[at], bytes[at + 1], bytes[at + 2], bytes[at + 3]])
-}
+// Three impls and not one: only a macro could write them from one text, and none of our own may write an impl.
+impl Word for u16 {
+    const SIZE: usize = 2;
 
-fn eight_bytes(bytes: &[u8], at: usize) -> u64
-    requires { at + 8 ≤ length bytes.now }
-    ensures little_endian { result ≡ four bytes.now at + four bytes.now (at + 4) * 2 ^ 32 }
-{
-    let low = four_bytes(bytes, at);
-    let high = four_bytes(bytes, at + 4);
-    u64::from(low) + u64::from(high) * 4_294_967_296
-}
+    ghost SIZE = { 2 };
 
-pub fn get16(bytes: &[u8], at: usize) -> u16
-    ensures little_endian { result ≡ get 2 bytes.now at }
-{
-    if within(bytes.len(), at, 2) {
-        two_bytes(bytes, at)
-    } else {
-        0
+    ghost number = { λ n. n };
+
+    fn read(bytes: &[u8]) -> u16 {
+        match bytes {
+            [a, b] => u16::from_le_bytes([*a, *b]),
+            _ => 0,
+        }
+    }
+
+    fn write(half: u16, bytes: &mut [u8], at: usize) {
+        overwrite(bytes, at, &half.to_le_bytes());
     }
 }
 
-pub fn get32(bytes: &[u8], at: usize) -> u32
-    ensures little_endian { result ≡ get 4 bytes.now at }
-{
-    if within(bytes.len(), at, 4) {
-        four_bytes(bytes, at)
-    } else {
-        0
+impl Word for u32 {
+    const SIZE: usize = 4;
+
+    ghost SIZE = { 4 };
+
+    ghost number = { λ n. n };
+
+    fn read(bytes: &[u8]) -> u32 {
+        match bytes {
+            [a, b, c, d] => u32::from_le_bytes([*a, *b, *c, *d]),
+            _ => 0,
+        }
+    }
+
+    fn write(word: u32, bytes: &mut [u8], at: usize) {
+        overwrite(bytes, at, &word.to_le_bytes());
     }
 }
 
-pub fn get64(bytes: &[u8], at: usize) -> u64
-    ensures little_endian { result ≡ get 8 bytes.now at }
-{
-    if within(bytes.len(), at, 8) {
-        eight_bytes(bytes, at)
-    } else {
-        0
+impl Word for u64 {
+    const SIZE: usize = 8;
+
+    ghost SIZE = { 8 };
+
+    ghost number = { λ n. n };
+
+    fn read(bytes: &[u8]) -> u64 {
+        match bytes {
+            [a, b, c, d, e, f, g, h] => u64::from_le_bytes([*a, *b, *c, *d, *e, *f, *g, *h]),
+            _ => 0,
+        }
+    }
+
+    fn write(wide: u64, bytes: &mut [u8], at: usize) {
+        overwrite(bytes, at, &wide.to_le_bytes());
     }
 }
 
-pub fn put16(bytes: &mut [u8], at: usize, half: u16)
-    ensures little_endian { bytes.new ≡ put 2 bytes.old at half }
+// The number in the bytes from `at` on.
+pub fn get<W: Word>(bytes: &[u8], at: usize) -> W
+    ensures little_endian { W.number result ≡ get W.SIZE bytes.now at }
 {
-    overwrite(bytes, at, &half.to_le_bytes());
+    W::read(part(bytes, at, W::SIZE))
 }
 
-pub fn put32(bytes: &mut [u8], at: usize, word: u32)
-    ensures little_endian { bytes.new ≡ put 4 bytes.old at word }
+// Writes the number from `at` on.
+pub fn put<W: Word>(bytes: &mut [u8], at: usize, word: W)
+    ensures little_endian { bytes.new ≡ put W.SIZE bytes.old at (W.number word) }
 {
-    overwrite(bytes, at, &word.to_le_bytes());
-}
-
-pub fn put64(bytes: &mut [u8], at: usize, wide: u64)
-    ensures little_endian { bytes.new ≡ put 8 bytes.old at wide }
-{
-    overwrite(bytes, at, &wide.to_le_bytes());
+    W::write(word, bytes, at);
 }

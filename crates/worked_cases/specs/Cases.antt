@@ -1,12 +1,12 @@
 -- The table of worked cases, and what it is for a case to follow the rule. Assumes nothing.
-use Rattle.std.specs.Prelude.{◌≡◌, ℕ, zero, suc, Bool, true, false, cond, not, ◌&&◌, List, [], ◌∷◌, Some, None, Option}
+use Rattle.std.specs.Prelude.{◌≡◌, ℕ, zero, suc, Bool, true, false, List, [], ◌∷◌, Some, None, Option}
 use Rattle.positions.specs.Stretch.{in_stretch}
 use Rattle.worked_cases.specs.declared.table.Case.{Case}
 
 abbrev pub row : ℕ → ℕ → ℕ → ℕ → Bool → Case
-row m a b e r = record { modulus = m; mark = a; now = b; event = e; inside = r }
+row m a b e r = record { stretch = record { modulus = m; from = a; to = b }; event = e; inside = r }
 
--- each row: modulus, mark, now, event, and whether the stretch from the mark up to now holds the event
+-- each row: the stretch's modulus, start and end, the event, and whether the stretch holds it
 abbrev pub table : List Case
 table =
     row 65536 65535 1 65535 true
@@ -24,16 +24,8 @@ row_at (c ∷ cs) (suc i) = row_at cs i
 
 -- the rule's own answer to a case
 abbrev pub ruled : Case → Bool
-ruled c = in_stretch c.modulus c.mark c.now c.event
+ruled c = in_stretch c.stretch.modulus c.stretch.from c.stretch.to c.event
 
 -- a row, where there is one, answers as the rule does
 abbrev pub AsRuled : Option Case → Type 0
 AsRuled o = (c : Case) → o ≡ Some c → c.inside ≡ ruled c
-
--- the one test of a whole table
-abbrev pub agree : Bool → Bool → Bool
-agree a b = cond a b (not b)
-
-abbrev pub all_agree : List Case → Bool
-all_agree [] = true
-all_agree (c ∷ cs) = agree c.inside (ruled c) && all_agree cs

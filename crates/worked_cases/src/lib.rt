@@ -4,4 +4,4 @@
 
 mod table;
 
-pub use table::{Case, worked_case};
+pub use table::{Case, worked_cases};

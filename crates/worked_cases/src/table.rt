@@ -1,47 +1,72 @@
 // The table, row by row.
-ghost use Rattle.std.specs.Prelude.{◌≡◌};
-ghost use Rattle.worked_cases.specs.Cases.{row, table, row_at, AsRuled};
+ghost use Rattle.std.specs.Prelude.{◌≡◌, ℕ};
+ghost use Rattle.worked_cases.specs.Cases.{table, row_at, AsRuled};
 
-// A stretch from `mark` up to `now`, and whether it holds `event`.
+use positions::Stretch;
+
+// A stretch, and whether it holds `event`.
 #[derive(Clone, Copy, PartialEq, Eq, Debug)]
 pub struct Case {
-    pub modulus: u32,
-    pub mark: u32,
-    pub now: u32,
+    pub stretch: Stretch,
     pub event: u32,
     pub inside: bool,
 }
 
-fn stretch_case(modulus: u32, mark: u32, current: u32, event: u32, inside: bool) -> Case
-    ensures field_by_field { result ≡ row modulus mark current event inside }
-{
+const OVER_THE_WRAP: Stretch = Stretch {
+    modulus: 65_536,
+    from: 65_535,
+    to: 1,
+};
+
+const OVER_THE_WRAP_OF_8: Stretch = Stretch {
+    modulus: 8,
+    from: 7,
+    to: 2,
+};
+
+const EMPTY: Stretch = Stretch {
+    modulus: 8,
+    from: 5,
+    to: 5,
+};
+
+const CASES: &[Case] = &[
     Case {
-        modulus,
-        mark,
-        now: current,
-        event,
-        inside,
-    }
-}
+        stretch: OVER_THE_WRAP,
+        event: 65_535,
+        inside: true, // its first position
+    },
+    Case {
+        stretch: OVER_THE_WRAP,
+        event: 0,
+        inside: true, // past the wrap
+    },
+    Case {
+        stretch: OVER_THE_WRAP,
+        event: 1,
+        inside: false, // where it ends
+    },
+    Case {
+        stretch: OVER_THE_WRAP_OF_8,
+        event: 7,
+        inside: true, // its first position
+    },
+    Case {
+        stretch: OVER_THE_WRAP_OF_8,
+        event: 3,
+        inside: false, // past its end
+    },
+    Case {
+        stretch: EMPTY,
+        event: 5,
+        inside: false, // it holds nothing
+    },
+];
 
-fn listed(i: usize) -> Option<Case>
-    ensures row_of_the_table { result ≡ row_at table i }
+// The whole table.
+pub fn worked_cases() -> &'static [Case]
+    ensures row_by_row { result.now ≡ table }
+    ensures as_the_rule_says { (i : ℕ) → AsRuled (row_at result.now i) }
 {
-    match i {
-        0 => Some(stretch_case(65536, 65535, 1, 65535, true)),
-        1 => Some(stretch_case(65536, 65535, 1, 0, true)),
-        2 => Some(stretch_case(65536, 65535, 1, 1, false)),
-        3 => Some(stretch_case(8, 7, 2, 7, true)),
-        4 => Some(stretch_case(8, 7, 2, 3, false)),
-        5 => Some(stretch_case(8, 5, 5, 5, false)),
-        _ => None,
-    }
-}
-
-// Row `i` of the table, from 0 on; none past its end.
-pub fn worked_case(i: usize) -> Option<Case>
-    ensures row_of_the_table { result ≡ row_at table i }
-    ensures as_the_rule_says { AsRuled result }
-{
-    listed(i)
+    CASES
 }
