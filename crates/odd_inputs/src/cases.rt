@@ -59,6 +59,7 @@ fn run<W: Way, C: Class>(alloc: Global, way: &mut W, case: Case) -> Result<Outco
         .carry::<C>(case.tag, request, &mut cell, &mut store)
         .map(|reply| (reply.status, reply.written))
         .map_err(Refusal::number);
+    // where there is no data, a row has 0 for its length and for its first byte
     let data = match C::data(&cell) {
         Ok(bytes) => (bytes.len(), bytes.first().copied().unwrap_or(0)),
         Err(_) => (0, 0),
