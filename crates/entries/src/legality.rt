@@ -53,11 +53,13 @@ impl Entry {
         self.has_legal_tag() && self.has_legal_chain()
     }
 
-    // The derived comparison, under a name and a contract.
+    // Place by place: the derived comparison of three segments is a loop, and takes more than three times as long.
     pub fn is_same(&self, other: &Entry) -> bool
         ensures by_the_rule { result ≡ same self.now other.now }
         ensures exactly_when_equal { Decides result (Same self.now other.now) }
     {
-        self == other
+        let [a, b, c] = self.segments;
+        let [x, y, z] = other.segments;
+        self.tag == other.tag && self.count == other.count && a == x && b == y && c == z
     }
 }

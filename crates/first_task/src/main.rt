@@ -9,10 +9,9 @@ ghost use Rattle.class.specs.Rules.{carried};
 ghost use Rattle.tasks.specs.Steps.{FoundAgain};
 ghost use Rattle.first_task.specs.Steps.{ShowsTheData};
 
-use anyhow::Result;
 use block::{Block, Operation, sectors};
 use class::{ByHand, CELL_SIZE, Class, Request};
-use tasks::{DISK_TAG, odd_requests, report};
+use tasks::{DISK_TAG, Result, odd_requests, report};
 
 // One step, handed over at once.
 fn step<C: Class>(

@@ -15,6 +15,9 @@ pub(crate) const IN_STORE: u8 = 0x11;
 
 const IN_PAYLOAD: u8 = 0x77;
 
+// How many bytes lie behind those that are lent: they have to stay, too.
+const BEHIND: usize = 64;
+
 // The sizes of what is lent, the two words that the store starts with, and a request.
 #[derive(Clone, Copy)]
 pub(crate) struct Case {
@@ -44,8 +47,8 @@ pub(crate) fn queue<'a>(region: &'a mut [u8]) -> Result<Split<'a>, Refusal> {
 
 // Runs a row one way.
 fn run<W: Way, C: Class>(alloc: Global, way: &mut W, case: Case) -> Result<Outcome, AllocError> {
-    let mut cell = vec![in alloc; IN_CELL; case.cell]?;
-    let mut store = vec![in alloc; IN_STORE; case.store]?;
+    let mut cell = vec![in alloc; IN_CELL; case.cell.saturating_add(BEHIND)]?;
+    let mut store = vec![in alloc; IN_STORE; case.store.saturating_add(BEHIND)]?;
     let payload = vec![in alloc; IN_PAYLOAD; case.payload]?;
     put(&mut store, 0, case.words.0);
     put(&mut store, 4, case.words.1);
@@ -56,11 +59,16 @@ fn run<W: Way, C: Class>(alloc: Global, way: &mut W, case: Case) -> Result<Outco
         payload: &payload,
     };
     let answer = way
-        .carry::<C>(case.tag, request, &mut cell, &mut store)
+        .carry::<C>(
+            case.tag,
+            request,
+            &mut cell[..case.cell],
+            &mut store[..case.store],
+        )
         .map(|reply| (reply.status, reply.written))
         .map_err(Refusal::number);
     // where there is no data, a row has 0 for its length and for its first byte
-    let data = match C::data(&cell) {
+    let data = match C::data(&cell[..case.cell]) {
         Ok(bytes) => (bytes.len(), bytes.first().copied().unwrap_or(0)),
         Err(_) => (0, 0),
     };

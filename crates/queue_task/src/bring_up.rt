@@ -1,6 +1,6 @@
 // From a reset device to one whose queue can be made.
-use anyhow::Result;
 use bringup::{EVENT_IDX, Reset, SPOKEN, Sized, State};
+use tasks::Result;
 
 // What the device offers.
 const OFFERED: u64 = SPOKEN;

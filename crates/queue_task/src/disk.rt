@@ -5,14 +5,13 @@ ghost use Rattle.tasks.specs.Steps.{FoundAgain};
 
 use crate::queues::{ask, go_to_sleep, tell_positions, wake};
 use crate::steps::step;
-use anyhow::Result;
 use block::{Block, Operation, sectors};
 use bringup::Sized;
 use carrying::Over;
 use class::{Class, Request};
 use queue::Queue;
 use split::Split;
-use tasks::{DISK_TAG, odd_requests, write_and_read};
+use tasks::{DISK_TAG, Result, odd_requests, write_and_read};
 
 // Writes a sector and reads it back, over a queue that is made for it in the region lent; whether the same bytes are found there.
 pub(crate) fn first_board(

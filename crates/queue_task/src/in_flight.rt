@@ -1,8 +1,8 @@
 // Three chains on the queue at once: what goes in first comes out first, whatever the lengths.
 use crate::queues::tell_positions;
-use anyhow::Result;
 use entries::{Entry, Segment};
 use queue::{Call, Queue, perform};
+use tasks::Result;
 
 // An entry of so many segments, of which only the last is the device's to write.
 fn chain(tag: u16, count: usize) -> Entry {

@@ -15,12 +15,11 @@ use crate::disk::{first_board, use_disk};
 use crate::in_flight::three_in_flight;
 use crate::queues::{ask, go_to_sleep, tell_words};
 use crate::worked::tell_worked_cases;
-use anyhow::Result;
 use bringup::{EVENT_IDX, VERSION_1};
 use carrying::Over;
 use class::CELL_SIZE;
 use split::Split;
-use tasks::report;
+use tasks::{Result, report};
 
 // The bytes of a split region of capacity 8.
 const REGION_SIZE: usize = 238;

@@ -1,7 +1,7 @@
 // What a queue can be asked as it goes: positions, wake-ups, and the words of its region.
-use anyhow::Result;
 use queue::{Position, Queue, Side, arm_and_look};
 use split_ring::{RegionView, available_event_place, device_area, driver_area, used_event_place};
+use tasks::Result;
 use words::get;
 
 // How far each side had come when the other went to sleep.

@@ -2,10 +2,10 @@
 ghost use Rattle.class.specs.Kinds.{asked};
 ghost use Rattle.queue_task.specs.Steps.{Stepped};
 
-use anyhow::Result;
 use carrying::Over;
 use class::{Class, Request};
 use queue::Queue;
+use tasks::Result;
 
 pub(crate) fn step<Q: Queue, C: Class>(
     rt: &HostRuntime,

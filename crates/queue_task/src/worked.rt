@@ -1,5 +1,5 @@
 // The worked cases, each asked once more.
-use anyhow::Result;
+use tasks::Result;
 use worked_cases::worked_cases;
 
 pub(crate) fn tell_worked_cases(rt: &HostRuntime) -> Result<()> {

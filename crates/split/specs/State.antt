@@ -1,15 +1,15 @@
 -- A split queue is a ring in the region that was lent to it: its calls are the ring's. Assumes nothing.
-use Rattle.std.specs.Prelude.{◌≡◌, ℕ, false, List, [], Some, None, Ok, Err, Option, Result, refl}
-use Rattle.std.proofs.Common.{sym, ap, ◌∙◌, subst}
+use Rattle.std.specs.Prelude.{◌≡◌, ℕ, Bool, true, false, cond, List, [], Some, None, Ok, Err, Option, Result, refl}
+use Rattle.std.proofs.Common.{sym, ap, ◌∙◌}
 use denote.Ref.{MutBor, at_last}
 use Rattle.entries.specs.declared.refusals.Refusal.{Refusal}
 use Rattle.queue.specs.Meaning.{Meaning}
 use Rattle.queue.specs.Laws.{Ops, Leaves, Laws}
 use Rattle.split_ring.specs.Cursors.{start}
 use Rattle.split_ring.specs.Lent.{serves}
-use Rattle.split_ring.specs.Ring.{Ring, alive, ring_ops}
+use Rattle.split_ring.specs.Ring.{Ring, alive, means_at, ring_ops}
 use Rattle.split_ring.specs.Sound.{ring_sound}
-use Rattle.split_ring.proofs.Laws.{idle_published, idle_taken, idle_finished, idle_collected, idle_armed, idle_hushed, ring_laws}
+use Rattle.split_ring.proofs.Laws.{ring_laws}
 use Rattle.split.specs.declared.state.Serving.{Serving}
 use Rattle.split.specs.declared.state.State.{State}
 use Rattle.split.specs.declared.state.State.TheVariants.{Live, Idle}
@@ -48,10 +48,10 @@ ring_in (Idle r) = idle r.now
 abbrev pub ring : Split → Ring
 ring q = ring_in q.state
 
--- the queue in whose region and numbers the ring r now is
-abbrev pub serving : Serving → Ring → Serving
-serving s r = record {
-  region = record { bytes = at_last s.region.bytes r.bytes; capacity = r.size };
+-- the queue in whose region and numbers the ring r now is, by the bytes that were lent
+abbrev pub served_in : MutBor (List ℕ) → Ring → Serving
+served_in b r = record {
+  region = record { bytes = at_last b r.bytes; capacity = r.size };
   events = r.events;
   published = r.published;
   taken = r.taken;
@@ -60,9 +60,13 @@ serving s r = record {
   chains = r.chains;
 }
 
+abbrev pub serving : Serving → Ring → Serving
+serving s r = served_in s.region.bytes r
+
+-- where nothing was served, a ring that is not alive leaves it so
 abbrev pub state_holding : State → Ring → State
 state_holding (Live s) r = Live (serving s r)
-state_holding (Idle b) r = Idle b
+state_holding (Idle b) r = cond (alive r) (Live (served_in b r)) (Idle (at_last b r.bytes))
 
 abbrev pub holding : Split → Ring → Split
 holding q r = record { state = state_holding q.state r }
@@ -106,32 +110,37 @@ split_ops = record {
   segments = λ q s. ring_ops.segments (ring q) s;
 }
 
--- a queue holds each ring that a call leaves: one that is not alive stays as it is
-held_ring : (t : State) (f : Ring → Ring) → ((r : Ring) → alive r ≡ false → f r ≡ r) → ring_in (state_holding t (f (ring_in t))) ≡ f (ring_in t)
+-- whatever ring a queue is to hold, it means what the ring means
+held_idle : (b : MutBor (List ℕ)) (r : Ring) (m : Meaning) (x : Bool) → alive r ≡ x → Leaves ring_sound ring_ops.means r m
+    → Leaves ring_sound ring_ops.means (ring_in (cond x (Live (served_in b r)) (Idle (at_last b r.bytes)))) m
 unfolding serves
-held_ring (Live s) f d = refl
-held_ring (Idle r) f d = sym (d (idle r.now) refl)
+held_idle b r m true e l = record { meaning = l.meaning; still_sound = l.still_sound }
+held_idle b r m false e l = record {
+  meaning = ap (λ y. means_at y r) (sym e) ∙ l.meaning;
+  still_sound = record { published_none = refl; taken_none = refl; finished_none = refl; collected_none = refl };
+}
 
-held_by : (q : Split) (f : Ring → Ring) → ((r : Ring) → alive r ≡ false → f r ≡ r) → (m : Meaning) → Leaves ring_sound ring_ops.means (f (ring q)) m
-    → Leaves split_sound split_ops.means (holding q (f (ring q))) m
-held_by q f d m l =
-    let e = held_ring q.state f d in
-    record { meaning = ap ring_ops.means e ∙ l.meaning; still_sound = subst ring_sound (sym e) l.still_sound }
+held_in : (t : State) (r : Ring) (m : Meaning) → Leaves ring_sound ring_ops.means r m → Leaves ring_sound ring_ops.means (ring_in (state_holding t r)) m
+held_in (Live s) r m l = record { meaning = l.meaning; still_sound = l.still_sound }
+held_in (Idle b) r m l = held_idle b r m (alive r) refl l
+
+held_by : (q : Split) (r : Ring) (m : Meaning) → Leaves ring_sound ring_ops.means r m → Leaves split_sound split_ops.means (holding q r) m
+held_by q r m l = let h = held_in q.state r m l in record { meaning = h.meaning; still_sound = h.still_sound }
 
 pub split_laws : Laws split_sound split_ops
 split_laws = record {
   well_formed = λ q s. ring_laws.well_formed (ring q) s;
   publish_answers = λ q e s. ring_laws.publish_answers (ring q) e s;
-  publish_leaves = λ q e s t. held_by q (λ r. ring_ops.published r e) (idle_published e) _ (ring_laws.publish_leaves (ring q) e s t);
+  publish_leaves = λ q e s t. held_by q _ _ (ring_laws.publish_leaves (ring q) e s t);
   take_answers = λ q s. ring_laws.take_answers (ring q) s;
-  take_leaves = λ q s. held_by q ring_ops.taken idle_taken _ (ring_laws.take_leaves (ring q) s);
+  take_leaves = λ q s. held_by q _ _ (ring_laws.take_leaves (ring q) s);
   finish_answers = λ q s. ring_laws.finish_answers (ring q) s;
-  finish_leaves = λ q n s small. held_by q (λ r. ring_ops.finished r n) (idle_finished n) _ (ring_laws.finish_leaves (ring q) n s small);
+  finish_leaves = λ q n s small. held_by q _ _ (ring_laws.finish_leaves (ring q) n s small);
   collect_answers = λ q s. ring_laws.collect_answers (ring q) s;
-  collect_leaves = λ q s. held_by q ring_ops.collected idle_collected _ (ring_laws.collect_leaves (ring q) s);
-  arm_leaves = λ q g s. held_by q (λ r. ring_ops.armed r g) (idle_armed g) _ (ring_laws.arm_leaves (ring q) g s);
+  collect_leaves = λ q s. held_by q _ _ (ring_laws.collect_leaves (ring q) s);
+  arm_leaves = λ q g s. held_by q _ _ (ring_laws.arm_leaves (ring q) g s);
   arm_watches_own = λ q g s. ring_laws.arm_watches_own (ring q) g s;
-  hush_leaves = λ q g s. held_by q (λ r. ring_ops.hushed r g) (idle_hushed g) _ (ring_laws.hush_leaves (ring q) g s);
+  hush_leaves = λ q g s. held_by q _ _ (ring_laws.hush_leaves (ring q) g s);
   wake_answers = λ q g mark s. ring_laws.wake_answers (ring q) g mark s;
   reads_capacity = λ q s. ring_laws.reads_capacity (ring q) s;
   reads_modulus = λ q s. ring_laws.reads_modulus (ring q) s;

@@ -3,7 +3,7 @@ ghost use Rattle.std.specs.Prelude.{◌≡◌, IfOk};
 ghost use Rattle.tasks.specs.Steps.{Free, FoundAgain};
 
 use crate::steps::step;
-use anyhow::Result;
+use crate::stop::Result;
 use block::{Block, Operation};
 use class::{Class, Request, Way};
 

@@ -3,7 +3,7 @@ ghost use Rattle.std.specs.Prelude.{◌≡◌, IfOk};
 ghost use Rattle.console.specs.Service.{kept_in, lost_in};
 
 use crate::steps::step;
-use anyhow::Result;
+use crate::stop::Result;
 use class::{Request, Way};
 use console::{Console, Counts, tally, text};
 use std::str::from_utf8;

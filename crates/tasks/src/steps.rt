@@ -3,7 +3,7 @@ ghost use Rattle.class.specs.Kinds.{asked};
 ghost use Rattle.class.specs.Laws.{GoesOn};
 ghost use Rattle.tasks.specs.Steps.{Stepped, WithSomeAnswer, refusal_on};
 
-use anyhow::Result;
+use crate::stop::Result;
 use class::{Class, Reply, Request, Way};
 use entries::Refusal;
 
