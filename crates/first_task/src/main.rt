@@ -6,7 +6,7 @@
 ghost use Rattle.std.specs.Prelude.{◌≡◌, IfOk};
 ghost use Rattle.class.specs.Kinds.{asked};
 ghost use Rattle.class.specs.Rules.{carried};
-ghost use Rattle.tasks.specs.Steps.{FoundAgain};
+ghost use Rattle.tasks.specs.Steps.{FoundAgain, OnDisk};
 ghost use Rattle.first_task.specs.Steps.{ShowsTheData};
 
 use block::{Block, Operation, sectors};
@@ -37,6 +37,7 @@ fn write_and_read(
     disk: &mut [u8],
 ) -> Result<bool>
     ensures found_again { IfOk result (λ same. FoundAgain cell.old disk.old sector board.now same) }
+    ensures on_the_disk { IfOk result (λ _. OnDisk cell.old disk.old sector board.now disk.new) }
 {
     tasks::write_and_read(rt, &mut ByHand, sector, board, cell, disk)
 }

@@ -16,7 +16,7 @@ pub(crate) const IN_STORE: u8 = 0x11;
 const IN_PAYLOAD: u8 = 0x77;
 
 // How many bytes lie behind those that are lent: they have to stay, too.
-const BEHIND: usize = 64;
+const BEHIND: usize = 2048;
 
 // The sizes of what is lent, the two words that the store starts with, and a request.
 #[derive(Clone, Copy)]

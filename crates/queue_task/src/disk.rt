@@ -1,7 +1,7 @@
 // A small disk over the queue.
 ghost use Rattle.std.specs.Prelude.{◌≡◌, true, IfOk};
 ghost use Rattle.split.specs.Making.{suits};
-ghost use Rattle.tasks.specs.Steps.{FoundAgain};
+ghost use Rattle.tasks.specs.Steps.{FoundAgain, OnDisk};
 
 use crate::queues::{ask, go_to_sleep, tell_positions, wake};
 use crate::steps::step;
@@ -24,6 +24,7 @@ pub(crate) fn first_board(
     disk: &mut [u8],
 ) -> Result<bool>
     ensures found_again { IfOk result (λ same. suits region.old sized.mode sized.capacity ≡ true → FoundAgain cell.old disk.old sector board.now same) }
+    ensures on_the_disk { IfOk result (λ _. suits region.old sized.mode sized.capacity ≡ true → OnDisk cell.old disk.old sector board.now disk.new) }
 {
     let mut way = Over {
         queue: Split::make(region, sized),

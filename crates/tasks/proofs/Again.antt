@@ -70,3 +70,12 @@ module _ {W : Type 0} (sound : W → Type 0) (too_small : W → ℕ → Bool) (i
       ∙ ap (λ (r : Asked). (plain store₁ r).answer.bytes) asks_to_read
       ∙ ap (λ (s : List ℕ). (plain s (read n)).answer.bytes) was_written
       ∙ ap (λ (a : Answer). a.bytes) ((disk store).written_sector_reads_back n board there long)
+
+  -- reading leaves what was written
+  pub kept_on : store₂ ≡ written store n board
+  kept_on =
+      fetched.1.plain_store
+      ∙ ap (λ o. (carried_by o block reads cell₁ store₁).store) read_free
+      ∙ ap (λ (r : Asked). (plain store₁ r).store) asks_to_read
+      ∙ (disk store₁).only_writes_change (read n) refl
+      ∙ was_written

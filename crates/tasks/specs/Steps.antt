@@ -7,6 +7,7 @@ use Rattle.class.specs.Kinds.{Asked, Kind}
 use Rattle.class.specs.Refusals.{is_store, way_refusal}
 use Rattle.class.specs.Laws.{CarriesBy}
 use Rattle.block.specs.Service.{has_sector}
+use Rattle.block.specs.Disk.{written}
 
 -- what refuses a request on a way, by its class
 abbrev pub refusal_on : (ℕ → Bool) → Bool → Kind → ℕ → Asked → List ℕ → List ℕ → Option Refusal
@@ -28,3 +29,7 @@ pub record Free (too_small : ℕ → Bool) (in_use : Bool) : Type 0 where
 -- a sector of the disk that is written and then read is found to hold the same bytes
 abbrev pub FoundAgain : List ℕ → List ℕ → ℕ → List ℕ → Bool → Type 0
 FoundAgain cell disk n bytes same = is_cell cell ≡ true → is_store 512 disk ≡ true → has_sector disk n ≡ true → length bytes ≡ 512 → same ≡ true
+
+-- and the disk is what the write makes of it
+abbrev pub OnDisk : List ℕ → List ℕ → ℕ → List ℕ → List ℕ → Type 0
+OnDisk cell disk n bytes later = is_cell cell ≡ true → is_store 512 disk ≡ true → has_sector disk n ≡ true → length bytes ≡ 512 → later ≡ written disk n bytes

@@ -1,6 +1,6 @@
 // A board on a disk.
 ghost use Rattle.std.specs.Prelude.{◌≡◌, IfOk};
-ghost use Rattle.tasks.specs.Steps.{Free, FoundAgain};
+ghost use Rattle.tasks.specs.Steps.{Free, FoundAgain, OnDisk};
 
 use crate::steps::step;
 use crate::stop::Result;
@@ -19,6 +19,7 @@ pub fn write_and_read<W: Way>(
     disk: &mut [u8],
 ) -> Result<bool>
     ensures found_again { IfOk result (λ same. W.sound way.old → Free (W.too_small way.old) (W.in_use way.old) → FoundAgain cell.old disk.old sector board.now same) }
+    ensures on_the_disk { IfOk result (λ _. W.sound way.old → Free (W.too_small way.old) (W.in_use way.old) → OnDisk cell.old disk.old sector board.now disk.new) }
 {
     let write = Request {
         code: Operation::Write.into(),

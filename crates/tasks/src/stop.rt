@@ -4,7 +4,7 @@ use std::io;
 use std::str::Utf8Error;
 use thiserror::Error;
 
-// A stream that takes no more, a store that was laid out wrongly, or a log that is no text. A program that stops prints which.
+// A stream that takes no more, a call that was refused, or a log that is no text. A program that stops prints which.
 #[derive(Debug, Drop, Error)]
 pub enum Stop {
     #[error(transparent)]
